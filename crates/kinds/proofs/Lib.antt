@@ -1,0 +1,4 @@
+pub mod Ring
+pub mod Bits
+pub mod Places
+pub mod Passing
