@@ -32,6 +32,15 @@ pub refused : {X : Type 0} (c : Option Refusal) (x : X) (r : Refusal) → Err r 
 refused None x r e = cc
 refused (Some s) x r e = cc
 
+pub says-no : {X : Type 0} (c : Option Refusal) (x : X) (r : Refusal) → c ≡ Some r → Err r ≡ answer c x
+says-no c x r e = sym (ap (λ (y : Option Refusal). answer y x) e)
+
+pub says-so : {X : Type 0} (c : Option Refusal) (x : X) → c ≡ None → Ok x ≡ answer c x
+says-so c x e = sym (ap (λ (y : Option Refusal). answer y x) e)
+
+pub apart : {X : Type 0} (r : Result X Refusal) (no-because : Refusal) (x : X) → r ≡ Err no-because → r ≡ Ok x → ⊥
+apart r e x p q = let z : _≡_ {A = ℕ} 0 1 = cc in omega arith
+
 -- the checks of the two maps, when they pass
 pub record Mapped (growth reach : ℕ) (ts xs : List ℤ) (wanted needed room : ℕ) : Type 0 where
   pub grows : growth ≤ 2000

@@ -1,0 +1,183 @@
+-- From the checks of multipliers to their floor and what it says.
+--     Floorable         what multipliers that pass all checks but that of the columns are
+use mathlib.Core.Path.{_≡_, refl, ap, sym, subst, _∙_}
+use mathlib.Core.Bool.{Bool, true, false}
+use mathlib.Core.List.{List, [], _∷_}
+use Prim.Native.Nat.{ℕ, zero, suc, _+_, _-_, _*_, _≤_, _<_, min, max}
+use native.Mathlib.Omega.{arith}
+use borrow.Author.Differences.{ints}
+use lib.IntN.{ℤ, pos, negℤ, natAbs}
+use lib.ListN.{length, take, drop, getD}
+use Rattle.std.specs.declared.option.Option.{Option}
+use Rattle.std.specs.declared.option.Option.the-variants.{Some, None}
+use Rattle.std.specs.declared.result.Result.{Result}
+use Rattle.std.specs.declared.result.Result.the-variants.{Ok, Err}
+use Rattle.kinds.specs.declared.reading.Reading.{Reading}
+use Rattle.kinds.specs.declared.refusal.Cause.the-variants.{Multiplier, Column}
+use Rattle.kinds.specs.declared.refusal.Refusal.{Refusal}
+use Rattle.kinds.specs.Checks.{located, or-else, first-off, first-off-from, answer}
+use Rattle.kinds.specs.Figures.{largest, over}
+use Rattle.kinds.specs.Penalty.{Penalty-meaning, Penalty-laws, Weight, Denominator, is-denominator}
+use Rattle.kinds.specs.Roughness.{Roughness-meaning, Roughness-laws, told-reach, told-growth, map-no, filled, Fills}
+use Rattle.kinds.proofs.Passing.{says-no, says-so, mapped-none}
+use Rattle.kinds.proofs.Places.{take-over}
+use Rattle.kinds.proofs.Ring.{mul-most}
+use Rattle.objective.specs.Checks.{is-stiffness, has-figures, stiffness-no, readings-no, readings-no-from, multipliers-no, first-column-off, columns-no, before-columns-no, weigh-multipliers-no}
+use Rattle.objective.specs.Objective.{Kinds-meaning, Kinds-laws, Lawful-multipliers, Bends-allow, Misfits-allow, minutes, columns-of, floor-of}
+use Rattle.objective.specs.Promises.{Weighs-multipliers}
+use Rattle.objective.proofs.Duality.{Weights, length-minutes, floor-holds, near-best}
+use Rattle.objective.proofs.Noted.{few, lawful-noted, weight-most}
+use Rattle.objective.proofs.Slopes.{allowed-most, weight-of, denominator-of}
+use Rattle.objective.proofs.Totals.{stiffness-weighs}
+use Rattle.objective.proofs.Weighing.{both-none, is-stiff, nothing-located}
+
+pub record Floorable (k : Kinds-meaning) (h : ℤ) (xs : List Reading) (d : ℤ) (ms : List ℤ) (room : ℕ) : Type 0 where
+  pub stiff : is-stiffness h ≡ true
+  pub noted : readings-no xs ≡ None
+  pub grows : k .roughness .growth ≤ 2000
+  pub misfit-steep : k .misfit .steepness ≤ 100
+  pub bend-steep : k .bend .steepness ≤ 100
+  pub reaches : told-reach (k .roughness) < length xs
+  pub long : length ms ≡ length xs - told-reach (k .roughness)
+  pub fits : length xs ≤ room
+  pub divides : is-denominator d ≡ true
+  pub slopes : first-off (k .bend .allows (natAbs h) (natAbs d)) ms ≡ None
+
+pub floorable : (k : Kinds-meaning) (h : ℤ) (xs : List Reading) (d : ℤ) (ms : List ℤ) (room : ℕ) → before-columns-no k h xs d ms room ≡ None → Floorable k h xs d ms room
+floorable k h xs d ms room e =
+    let a = both-none (stiffness-no h) _ e in
+    let b = both-none (readings-no xs) _ (a .1) in
+    let c = both-none (multipliers-no k (natAbs h) (length xs) d ms room) None (b .1) .0 in
+    record {
+      stiff = is-stiff h (a .0);
+      noted = b .0;
+      grows = grind (arith, c);
+      misfit-steep = grind (arith, c);
+      bend-steep = grind (arith, c);
+      reaches = grind (arith, c);
+      long = grind (arith, c);
+      fits = grind (arith, c);
+      divides = grind (arith, c);
+      slopes = nothing-located Multiplier (first-off (k .bend .allows (natAbs h) (natAbs d)) ms) (grind (arith, c));
+    }
+
+slopes-most : (p : Penalty-meaning) → Penalty-laws p → p .steepness ≤ 100 → (h d : ℕ) → Weight h → Denominator d → (i : ℕ) (ms : List ℤ) → first-off-from (p .allows h d) i ms ≡ None → largest ms ≤ 100000000
+slopes-most p law steep h d hw hd i [] e = omega arith
+slopes-most p law steep h d hw hd i (m ∷ ms) e =
+    let here = allowed-most p law steep h d hw hd m (grind arith) in
+    let more = slopes-most p law steep h d hw hd (i + 1) ms (grind arith) in
+    omega arith
+
+pub multipliers-most : (k : Kinds-meaning) → Penalty-laws (k .bend) → (h : ℤ) (xs : List Reading) (d : ℤ) (ms : List ℤ) (room : ℕ) → Floorable k h xs d ms room → largest ms ≤ 100000000
+multipliers-most k law h xs d ms room f =
+    slopes-most (k .bend) law (f .bend-steep) (natAbs h) (natAbs d) (weight-of h (stiffness-weighs h (f .stiff))) (denominator-of d (f .divides)) 0 ms (f .slopes)
+
+-- the roughness does not refuse such multipliers
+pub back-passes : (k : Roughness-meaning) (xs : List Reading) (ms : List ℤ) (room : ℕ) → readings-no xs ≡ None → k .growth ≤ 2000 → told-reach k < length xs → length ms ≡ length xs - told-reach k → largest ms ≤ 100000000 → length xs ≤ room → map-no k (minutes xs) ms (length (minutes xs) - told-reach k) (length (minutes xs)) room ≡ None
+back-passes k xs ms room noted grows reaches long small fits =
+    let same = length-minutes xs in
+    let most = few 0 None xs noted (omega arith) in
+    let growth : told-growth k ≤ 2000 = omega arith in
+    mapped-none (told-growth k) (told-reach k) (minutes xs) ms (length (minutes xs) - told-reach k) (length (minutes xs)) room (record {
+      grows = growth;
+      reaches = omega arith;
+      few = omega arith;
+      long = omega arith;
+      fits = omega arith;
+      law = lawful-noted 0 None xs noted;
+      small = omega (arith, mul-most growth small);
+    })
+
+pub backed : (k : Roughness-meaning) (xs : List Reading) (ts ms before after : List ℤ) (r : Result (Unit {0}) Refusal) → ts ≡ minutes xs → map-no k (minutes xs) ms (length (minutes xs) - told-reach k) (length (minutes xs)) (length before) ≡ None → Fills (map-no k ts ms (length ts - told-reach k) (length ts) (length before)) (k .columns ts ms) before after r → (r ≡ Ok tt) × (after ≡ over (k .columns (minutes xs) ms) before)
+backed k xs ts ms before after r cut passes f =
+    let F : List ℤ → Type 0 = λ ts. Fills (map-no k ts ms (length ts - told-reach k) (length ts) (length before)) (k .columns ts ms) before after r in
+    let f′ = subst F cut f in
+    (f′ .answered ∙ ap (λ (c : Option Refusal). answer c tt) passes, f′ .place ∙ ap (λ (c : Option Refusal). filled c (k .columns (minutes xs) ms) before) passes)
+
+-- the columns of such multipliers
+pub record Columned (k : Kinds-meaning) (xs : List Reading) (columns : List ℤ) : Type 0 where
+  pub long : length columns ≡ length xs
+  pub small : largest columns ≤ 1000000000000
+
+pub columned : (k : Kinds-meaning) → Roughness-laws (k .roughness) → (h : ℤ) (xs : List Reading) (d : ℤ) (ms : List ℤ) (room : ℕ) → Floorable k h xs d ms room → largest ms ≤ 100000000 → Columned k xs (columns-of k xs ms)
+columned k law h xs d ms room f small =
+    let same = length-minutes xs in
+    let most = few 0 None xs (f .noted) (omega arith) in
+    let reaches = f .reaches in
+    let count : length ms + k .roughness .reach ≡ length (minutes xs) = omega (arith, f .long) in
+    let long = law .columns-length (minutes xs) ms count in
+    let grown = law .columns-growth (minutes xs) ms (lawful-noted 0 None xs (f .noted)) count in
+    record { long = omega arith; small = omega (arith, mul-most (f .grows) small) }
+
+pub cut-columns : (k : Kinds-meaning) (xs : List Reading) (ms place old : List ℤ) → Columned k xs (columns-of k xs ms) → place ≡ over (columns-of k xs ms) old → take (length xs - 0) place ≡ columns-of k xs ms
+cut-columns k xs ms place old c e =
+    let long = c .long in
+    ap (take (length xs - 0)) e ∙ take-over (length xs - 0) (columns-of k xs ms) old (omega arith)
+
+-- multipliers and columns that passed are lawful
+bends-allow : (p : Penalty-meaning) (h d i : ℕ) (ms : List ℤ) → first-off-from (p .allows h d) i ms ≡ None → Bends-allow p h d ms
+bends-allow p h d i [] e = tt
+bends-allow p h d i (m ∷ ms) e = (grind arith, bends-allow p h d (i + 1) ms (grind arith))
+
+misfits-allow : (p : Penalty-meaning) (d i : ℕ) (cs : List ℤ) (xs : List Reading) → first-column-off p d i cs xs ≡ None → Misfits-allow p d cs xs
+misfits-allow p d i [] xs e = tt
+misfits-allow p d i (c ∷ cs) [] e = tt
+misfits-allow p d i (c ∷ cs) (x ∷ xs) e = (grind arith, misfits-allow p d (i + 1) cs xs (grind arith))
+
+weights : (i : ℕ) (last : Option ℤ) (xs : List Reading) → readings-no-from i last xs ≡ None → Weights xs
+weights i last [] e = tt
+weights i last (x ∷ xs) e =
+    let fine : has-figures x ≡ true = grind arith in
+    (omega (arith, weight-most x fine), weights (i + 1) (Some (x .minute)) xs (grind arith))
+
+pub lawful-multipliers : (k : Kinds-meaning) (h : ℤ) (xs : List Reading) (d : ℤ) (ms : List ℤ) (room : ℕ) → weigh-multipliers-no k h xs d ms room ≡ None → Lawful-multipliers k (natAbs h) (natAbs d) xs ms
+lawful-multipliers k h xs d ms room e =
+    let a = both-none (before-columns-no k h xs d ms room) _ e in
+    let f = floorable k h xs d ms room (a .0) in
+    let most = few 0 None xs (f .noted) (omega arith) in
+    let reaches = f .reaches in
+    record {
+      count = omega (arith, f .long);
+      multipliers = bends-allow (k .bend) (natAbs h) (natAbs d) 0 ms (f .slopes);
+      columns = misfits-allow (k .misfit) (natAbs d) 0 (columns-of k xs ms) xs (nothing-located Column _ (a .1));
+    }
+
+pub floored : (k : Kinds-meaning) → Kinds-laws k → (h : ℤ) (xs : List Reading) (d : ℤ) (ms before after : List ℤ) (r : Result ℤ Refusal) → r ≡ answer (weigh-multipliers-no k h xs d ms (length before)) (floor-of k xs ms) → after ≡ filled (weigh-multipliers-no k h xs d ms (length before)) (columns-of k xs ms) before → Weighs-multipliers k h xs d ms before after r
+floored k law h xs d ms before after r a p =
+    let below : weigh-multipliers-no k h xs d ms (length before) ≡ None → _ = λ e.
+        (let f = floorable k h xs d ms (length before) (both-none (before-columns-no k h xs d ms (length before)) _ e .0) in
+        floor-holds k law (natAbs h) (natAbs d) (weight-of h (stiffness-weighs h (f .stiff))) (denominator-of d (f .divides)) xs ms (weights 0 None xs (f .noted)) (lawful-multipliers k h xs d ms (length before) e)) in
+    record {
+      answered = a;
+      place = p;
+      lawful = lawful-multipliers k h xs d ms (length before);
+      floor-holds = below;
+      near-best = λ e.
+        (let f = floorable k h xs d ms (length before) (both-none (before-columns-no k h xs d ms (length before)) _ e .0) in
+        near-best k (natAbs h) (natAbs d) (denominator-of d (f .divides) .0) xs (floor-of k xs ms) (below e));
+    }
+
+-- the last of three checks answers
+pub last-of-three : (a b m : Option Refusal) (r : Result (Unit {0}) Refusal) → a ≡ None → b ≡ None → r ≡ answer m tt → r ≡ answer (or-else a (or-else b (or-else m None))) tt
+last-of-three None None None r ea eb e = e
+last-of-three None None (Some x) r ea eb e = e
+last-of-three None (Some y) m r ea eb e = absurd (let z : _≡_ {A = ℕ} 0 1 = cc in omega arith)
+last-of-three (Some x) b m r ea eb e = absurd (let z : _≡_ {A = ℕ} 0 1 = cc in omega arith)
+
+pub floor-refused : (k : Kinds-meaning) → Kinds-laws k → (h : ℤ) (xs : List Reading) (d : ℤ) (ms before : List ℤ) (r : Refusal) → weigh-multipliers-no k h xs d ms (length before) ≡ Some r → Weighs-multipliers k h xs d ms before before (Err r)
+floor-refused k law h xs d ms before r e =
+    floored k law h xs d ms before before (Err r) (says-no _ _ r e) (sym (ap (λ (c : Option Refusal). filled c (columns-of k xs ms) before) e))
+
+pub floor-weighed : (k : Kinds-meaning) → Kinds-laws k → (h : ℤ) (xs : List Reading) (d : ℤ) (ms before after : List ℤ) (v : ℤ) → weigh-multipliers-no k h xs d ms (length before) ≡ None → after ≡ over (columns-of k xs ms) before → v ≡ floor-of k xs ms → Weighs-multipliers k h xs d ms before after (Ok v)
+floor-weighed k law h xs d ms before after v e a f =
+    floored k law h xs d ms before after (Ok v) (ap (λ (z : ℤ). Ok z) f ∙ says-so _ _ e) (a ∙ sym (ap (λ (c : Option Refusal). filled c (columns-of k xs ms) before) e))
+
+-- where the checks stop
+pub stopped-before : (k : Kinds-meaning) (h : ℤ) (xs : List Reading) (d : ℤ) (ms : List ℤ) (room : ℕ) (r : Refusal) → before-columns-no k h xs d ms room ≡ Some r → weigh-multipliers-no k h xs d ms room ≡ Some r
+stopped-before k h xs d ms room r e = ap (λ (c : Option Refusal). or-else c (columns-no (k .misfit) (natAbs d) (columns-of k xs ms) xs)) e
+
+pub stopped-at : (k : Kinds-meaning) (h : ℤ) (xs : List Reading) (d : ℤ) (ms : List ℤ) (room : ℕ) (r : Refusal) → before-columns-no k h xs d ms room ≡ None → columns-no (k .misfit) (natAbs d) (columns-of k xs ms) xs ≡ Some r → weigh-multipliers-no k h xs d ms room ≡ Some r
+stopped-at k h xs d ms room r e f = ap (λ (c : Option Refusal). or-else c (columns-no (k .misfit) (natAbs d) (columns-of k xs ms) xs)) e ∙ f
+
+pub passed-both : (k : Kinds-meaning) (h : ℤ) (xs : List Reading) (d : ℤ) (ms : List ℤ) (room : ℕ) → before-columns-no k h xs d ms room ≡ None → columns-no (k .misfit) (natAbs d) (columns-of k xs ms) xs ≡ None → weigh-multipliers-no k h xs d ms room ≡ None
+passed-both k h xs d ms room e f = ap (λ (c : Option Refusal). or-else c (columns-no (k .misfit) (natAbs d) (columns-of k xs ms) xs)) e ∙ f

@@ -1,0 +1,23 @@
+use native.Mathlib.Omega.{arith}
+use borrow.Author.Needs.{needs}
+use lib.ListN.{getD}
+use mir.Syntax.{w64}
+use mir.Val.{SFits}
+use Rattle.std.proofs.shelf.Lists.{at-drop-more, at-drop-all}
+use Rattle.std.proofs.shelf.Signed.{toZ-ofZ}
+use Rattle.kinds.proofs.Places.{written-none, written-more, written-all}
+use Rattle.objective.specs.Objective.{minutes}
+use Rattle.objective.proofs.Noted.{blank}
+use Rattle.objective.proofs.weigh.fill_minutes.Needs as need
+
+pub loop-at-holds : need.loop-at-holds
+loop-at-holds c = written-none _ _
+
+pub loop-at-again : need.loop-at-again
+loop-at-again c =
+    let fits : SFits w64 (getD (c .args .readings .now) (c .loop-at .at) blank .minute) = search needs in
+    simp toZ-ofZ (written-more (c .loop-at .at) (getD (c .args .readings .now) (c .loop-at .at) blank .minute) _ _ _ _ (c .loop-at .place) (c .loop-at .inv) (omega arith)
+    (at-drop-more minutes (c .args .readings .now) (c .loop-at .at) blank (c .loop-at-test .taken)))
+
+pub returns : need.returns
+returns c = written-all (c .loop-at .at) _ _ _ (c .loop-at .place) (c .loop-at .inv) (omega arith) (at-drop-all minutes (c .args .readings .now) (c .loop-at .at) (c .loop-at-test .left))
