@@ -19,13 +19,13 @@ written-none new old = record { front = refl; back = refl }
 pub written-more : (k : ℕ) (x : ℤ) (was rest new old place : List ℤ) → Written k was new old place → k < length place → was ≡ x ∷ rest → Written (k + 1) rest new old (set place k x)
 written-more k x was rest new old place w h e = record {
   front =
-    ap (λ (l : List ℤ). l ++ rest) (take-more-set place k x h)
-    ∙ append-assoc (take k place) (x ∷ []) rest
-    ∙ ap (λ (l : List ℤ). take k place ++ l) (sym e)
-    ∙ w .front;
+      ap (λ (l : List ℤ). l ++ rest) (take-more-set place k x h)
+      ∙ append-assoc (take k place) (x ∷ []) rest
+      ∙ ap (λ (l : List ℤ). take k place ++ l) (sym e)
+      ∙ w .front;
   back =
-    let lt : k < k + 1 = omega arith in
-    drop-set-lt (k + 1) place k x lt ∙ sym (drop-drop 1 k place) ∙ ap (drop 1) (w .back) ∙ drop-drop 1 k old;
+      let lt : k < k + 1 = omega arith in
+      drop-set-lt (k + 1) place k x lt ∙ sym (drop-drop 1 k place) ∙ ap (drop 1) (w .back) ∙ drop-drop 1 k old;
 }
 
 pub written-all : (k : ℕ) (rest new old place : List ℤ) → Written k rest new old place → k ≤ length place → rest ≡ [] → place ≡ over new old

@@ -17,14 +17,32 @@ mul-add a b c = *ℤ-comm a (b +ℤ c) ∙ add-mul b c a ∙ omega (arith, ints)
 
 pub mul-assoc : (a b c : ℤ) → (a *ℤ b) *ℤ c ≡ a *ℤ (b *ℤ c)
 mul-assoc a b c =
-    same-in _ _ (omega (arith, product-is (a *ℤ b) c, product-is a (b *ℤ c),
-    ap (λ n. n * up c) (product-is a b .0), ap (λ n. n * down c) (product-is a b .0), ap (λ n. n * up c) (product-is a b .1), ap (λ n. n * down c) (product-is a b .1),
-    ap (λ n. up a * n) (product-is b c .0), ap (λ n. down a * n) (product-is b c .0), ap (λ n. up a * n) (product-is b c .1), ap (λ n. down a * n) (product-is b c .1)))
+    same-in _ _ (omega (
+      arith,
+      product-is (a *ℤ b) c,
+      product-is a (b *ℤ c),
+      ap (λ n. n * up c) (product-is a b .0),
+      ap (λ n. n * down c) (product-is a b .0),
+      ap (λ n. n * up c) (product-is a b .1),
+      ap (λ n. n * down c) (product-is a b .1),
+      ap (λ n. up a * n) (product-is b c .0),
+      ap (λ n. down a * n) (product-is b c .0),
+      ap (λ n. up a * n) (product-is b c .1),
+      ap (λ n. down a * n) (product-is b c .1),
+    ))
 
 pub neg-mul : (a b : ℤ) → negℤ a *ℤ b ≡ negℤ (a *ℤ b)
 neg-mul a b =
-    same-in _ _ (omega (arith, product-is (negℤ a) b, product-is a b, neg-is (a *ℤ b),
-    ap (λ n. n * up b) (neg-is a .0), ap (λ n. n * down b) (neg-is a .0), ap (λ n. n * up b) (neg-is a .1), ap (λ n. n * down b) (neg-is a .1)))
+    same-in _ _ (omega (
+      arith,
+      product-is (negℤ a) b,
+      product-is a b,
+      neg-is (a *ℤ b),
+      ap (λ n. n * up b) (neg-is a .0),
+      ap (λ n. n * down b) (neg-is a .0),
+      ap (λ n. n * up b) (neg-is a .1),
+      ap (λ n. n * down b) (neg-is a .1),
+    ))
 
 pub mul-neg : (a b : ℤ) → a *ℤ negℤ b ≡ negℤ (a *ℤ b)
 mul-neg a b = *ℤ-comm a (negℤ b) ∙ neg-mul b a ∙ ap negℤ (*ℤ-comm b a)

@@ -2,8 +2,10 @@
 --     at              a refusal
 --     unless          the check of one test
 --     located         the check of a search: refused at the place that was found
+--     or-else         one check, and where it passes the next
 --     first-of        checks in their order: the first that does not pass
 --     first-off       the first place of a list at which a test fails
+--     first-off-from  the same, of a list that begins at a place
 --     answer          what a call answers after its checks: its value if they pass
 use mathlib.Core.Bool.{Bool, true, false, cond}
 use mathlib.Core.List.{List, [], _∷_}

@@ -1,6 +1,8 @@
 -- What a kind of penalty means, the laws that it keeps, and how it answers.
 --     Penalty-meaning       steepness, mark, cost, allowed slopes and a touching slope
 --     Penalty-laws          the slope law, the touch law and the bounds of cost and slopes
+--     Weight, Denominator   the weights and denominators of which the laws speak
+--     is-weight, is-denominator, is-residual, is-slope     whether a figure is within the limits of an answer
 --     cost-answer, allows-answer, touch-answer     what a kind answers: its meaning within the limits, and none outside
 -- Weights and denominators of the laws are naturals; an answer is given for weights from 0 and denominators from 1, so
 -- `natAbs` takes nothing away there.
@@ -23,7 +25,6 @@ pub record Penalty-meaning : Type 0 where
   -- of weight, denominator and residual
   pub touch : ℕ → ℕ → ℤ → ℤ
 
--- the weights and denominators of which the laws speak
 abbrev pub Weight : ℕ → Type 0
 Weight w = w ≤ 1000
 

@@ -2,9 +2,11 @@
 --     Roughness-meaning     reach, growth, mark, and the two maps: values to rows (forward), multipliers to columns (back)
 --     Roughness-laws        the adjoint identity, the growth law, and how long rows and columns are
 --     told-reach, told-growth     what the kind tells: its reach up to 241, its growth up to 2,001
---     map-no          the checks of forward and of back
+--     told-no         the checks of a map, from the growth and reach that a kind tells
+--     map-no          the checks of forward and of back, of a kind
 --     filled          what a place holds after a call that was to write `new` into it
 --     Fills           a call answers by its checks, and fills the start of its place only if they pass
+--     Forwards, Backs       what forward and back do: of minutes, input, the place before and after, and the answer
 use mathlib.Core.Path.{_≡_}
 use mathlib.Core.Bool.{Bool, true, _&&_}
 use mathlib.Core.List.{List, [], _∷_}
@@ -49,12 +51,12 @@ told-growth k = min (k .growth) 2001
 abbrev pub told-no : ℕ → ℕ → List ℤ → List ℤ → ℕ → ℕ → ℕ → Option Refusal
 told-no growth reach ts xs wanted needed room =
     first-of (
-      unless (leb growth 2000) (at Steep 0)
-      ∷ unless (ltb reach (length ts)) (at Short 0)
-      ∷ unless (leb (length ts) 240 && eqb (length xs) wanted && leb needed room) (at Length 0)
-      ∷ unless (lawful ts) (at Minute 0)
-      ∷ unless (leb (growth * largest xs) 1000000000000) (at Value 0)
-      ∷ [])
+    unless (leb growth 2000) (at Steep 0)
+    ∷ unless (ltb reach (length ts)) (at Short 0)
+    ∷ unless (leb (length ts) 240 && eqb (length xs) wanted && leb needed room) (at Length 0)
+    ∷ unless (lawful ts) (at Minute 0)
+    ∷ unless (leb (growth * largest xs) 1000000000000) (at Value 0)
+    ∷ [])
 
 abbrev pub map-no : Roughness-meaning → List ℤ → List ℤ → ℕ → ℕ → ℕ → Option Refusal
 map-no k = told-no (told-growth k) (told-reach k)
@@ -66,3 +68,9 @@ filled (Some r) new old = old
 pub record Fills (no-because : Option Refusal) (new before after : List ℤ) (r : Result (Unit {0}) Refusal) : Type 0 where
   pub answered : r ≡ answer no-because tt
   pub place : after ≡ filled no-because new before
+
+abbrev pub Forwards : Roughness-meaning → List ℤ → List ℤ → List ℤ → List ℤ → Result (Unit {0}) Refusal → Type 0
+Forwards k ts vs before after r = Fills (map-no k ts vs (length ts) (length ts - told-reach k) (length before)) (k .rows ts vs) before after r
+
+abbrev pub Backs : Roughness-meaning → List ℤ → List ℤ → List ℤ → List ℤ → Result (Unit {0}) Refusal → Type 0
+Backs k ts ms before after r = Fills (map-no k ts ms (length ts - told-reach k) (length ts) (length before)) (k .columns ts ms) before after r

@@ -2,7 +2,7 @@
 ghost use mathlib.Core.Path.{_≡_};
 ghost use Rattle.kinds.specs.Refusals.{number-of};
 
-// Why a call is turned down. `number` is how a cause is said in text and in files.
+// Why a call is turned down. Text says a cause by its `number`.
 #[derive(Clone, Copy, PartialEq, Eq, Debug)]
 pub enum Cause {
     // a crude value or a weight is out of range

@@ -145,16 +145,16 @@ lawful-multipliers k h xs d ms room e =
 pub floored : (k : Kinds-meaning) → Kinds-laws k → (h : ℤ) (xs : List Reading) (d : ℤ) (ms before after : List ℤ) (r : Result ℤ Refusal) → r ≡ answer (weigh-multipliers-no k h xs d ms (length before)) (floor-of k xs ms) → after ≡ filled (weigh-multipliers-no k h xs d ms (length before)) (columns-of k xs ms) before → Weighs-multipliers k h xs d ms before after r
 floored k law h xs d ms before after r a p =
     let below : weigh-multipliers-no k h xs d ms (length before) ≡ None → _ = λ e.
-        (let f = floorable k h xs d ms (length before) (both-none (before-columns-no k h xs d ms (length before)) _ e .0) in
-        floor-holds k law (natAbs h) (natAbs d) (weight-of h (stiffness-weighs h (f .stiff))) (denominator-of d (f .divides)) xs ms (weights 0 None xs (f .noted)) (lawful-multipliers k h xs d ms (length before) e)) in
+    (let f = floorable k h xs d ms (length before) (both-none (before-columns-no k h xs d ms (length before)) _ e .0) in
+    floor-holds k law (natAbs h) (natAbs d) (weight-of h (stiffness-weighs h (f .stiff))) (denominator-of d (f .divides)) xs ms (weights 0 None xs (f .noted)) (lawful-multipliers k h xs d ms (length before) e)) in
     record {
       answered = a;
       place = p;
       lawful = lawful-multipliers k h xs d ms (length before);
       floor-holds = below;
       near-best = λ e.
-        (let f = floorable k h xs d ms (length before) (both-none (before-columns-no k h xs d ms (length before)) _ e .0) in
-        near-best k (natAbs h) (natAbs d) (denominator-of d (f .divides) .0) xs (floor-of k xs ms) (below e));
+          (let f = floorable k h xs d ms (length before) (both-none (before-columns-no k h xs d ms (length before)) _ e .0) in
+          near-best k (natAbs h) (natAbs d) (denominator-of d (f .divides) .0) xs (floor-of k xs ms) (below e));
     }
 
 -- the last of three checks answers

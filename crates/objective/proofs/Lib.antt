@@ -5,3 +5,4 @@ pub mod Slopes
 pub mod Totals
 pub mod Weighing
 pub mod Flooring
+pub mod Margins

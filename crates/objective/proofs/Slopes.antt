@@ -48,9 +48,9 @@ slope-untold p law steep w d s e hw hd =
 module _ (p : Penalty-meaning) (d i : ℕ) (cs : List ℤ) (xs : List Reading) (found : Option ℕ) (h : i < length cs) (same : length cs ≡ length xs) (inv : first-column-off p d i (drop i cs) (drop i xs) ≡ found) where
   here : cond (p .allows (natAbs (getD xs i blank .weight)) d (negℤ (getD cs i (pos 0)))) (first-column-off p d (i + 1) (drop (i + 1) cs) (drop (i + 1) xs)) (Some i) ≡ found
   here =
-    sym (ap (λ (l : List ℤ). first-column-off p d i l (drop i xs)) (drop-more cs i (pos 0) h)
-    ∙ ap (first-column-off p d i (getD cs i (pos 0) ∷ drop (i + 1) cs)) (drop-more xs i blank (omega arith)))
-    ∙ inv
+      sym (ap (λ (l : List ℤ). first-column-off p d i l (drop i xs)) (drop-more cs i (pos 0) h)
+      ∙ ap (first-column-off p d i (getD cs i (pos 0) ∷ drop (i + 1) cs)) (drop-more xs i blank (omega arith)))
+      ∙ inv
 
   pub column-stop : p .allows (natAbs (getD xs i blank .weight)) d (negℤ (getD cs i (pos 0))) ≡ false → found ≡ Some i
   column-stop e = sym here ∙ ap (λ (b : Bool). cond b (first-column-off p d (i + 1) (drop (i + 1) cs) (drop (i + 1) xs)) (Some i)) e

@@ -48,10 +48,10 @@ settings-no h g = unless (is-stiffness h && is-allowance g) (at Setting 0)
 abbrev pub reading-no : ℕ → ℕ → Option ℤ → Reading → Option Refusal
 reading-no count place last x =
     first-of (
-      unless (ltb count 240) (at Full place)
-      ∷ unless (has-figures x) (at Figure place)
-      ∷ unless (may-come last (x .minute)) (at Minute place)
-      ∷ [])
+    unless (ltb count 240) (at Full place)
+    ∷ unless (has-figures x) (at Figure place)
+    ∷ unless (may-come last (x .minute)) (at Minute place)
+    ∷ [])
 
 -- the first of these readings stands at place i
 abbrev pub readings-no-from : ℕ → Option ℤ → List Reading → Option Refusal
@@ -67,21 +67,21 @@ kinds-no k = unless (leb (k .roughness .growth) 2000 && leb (k .misfit .steepnes
 abbrev pub table-no : Kinds-meaning → ℕ → List ℤ → ℕ → Option Refusal
 table-no k n vs room =
     first-of (
-      kinds-no k
-      ∷ unless (ltb (told-reach (k .roughness)) n) (at Short 0)
-      ∷ unless (eqb (length vs) n && leb (n - told-reach (k .roughness)) room) (at Length 0)
-      ∷ located Value (first-off is-value vs)
-      ∷ [])
+    kinds-no k
+    ∷ unless (ltb (told-reach (k .roughness)) n) (at Short 0)
+    ∷ unless (eqb (length vs) n && leb (n - told-reach (k .roughness)) room) (at Length 0)
+    ∷ located Value (first-off is-value vs)
+    ∷ [])
 
 abbrev pub multipliers-no : Kinds-meaning → ℕ → ℕ → ℤ → List ℤ → ℕ → Option Refusal
 multipliers-no k h n d ms room =
     first-of (
-      kinds-no k
-      ∷ unless (ltb (told-reach (k .roughness)) n) (at Short 0)
-      ∷ unless (eqb (length ms) (n - told-reach (k .roughness)) && leb n room) (at Length 0)
-      ∷ unless (is-denominator d) (at Denominator 0)
-      ∷ located Multiplier (first-off (k .bend .allows h (natAbs d)) ms)
-      ∷ [])
+    kinds-no k
+    ∷ unless (ltb (told-reach (k .roughness)) n) (at Short 0)
+    ∷ unless (eqb (length ms) (n - told-reach (k .roughness)) && leb n room) (at Length 0)
+    ∷ unless (is-denominator d) (at Denominator 0)
+    ∷ located Multiplier (first-off (k .bend .allows h (natAbs d)) ms)
+    ∷ [])
 
 -- the first of these columns stands at place i
 abbrev pub first-column-off : Penalty-meaning → ℕ → ℕ → List ℤ → List Reading → Option ℕ

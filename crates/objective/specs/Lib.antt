@@ -1,3 +1,4 @@
 pub mod Objective
 pub mod Checks
 pub mod Promises
+pub mod Gaps

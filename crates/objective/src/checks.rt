@@ -6,36 +6,53 @@ ghost use lib.ListN.{length};
 ghost use Rattle.kinds.specs.Checks.{answer, first-off};
 ghost use Rattle.objective.specs.Checks.{settings-no, stiffness-no, reading-no, readings-no, kinds-no, table-no, multipliers-no, columns-no, is-value};
 ghost use Rattle.objective.specs.Objective.{three};
+use crate::kinds::Kinds;
 use kinds::minutes::may_come;
 use kinds::penalty::Penalty;
 use kinds::reading::Reading;
 use kinds::refusal::Cause;
 use kinds::refusal::Refusal;
 use kinds::roughness::Roughness;
-use crate::kinds::Kinds;
 
 // Stiffness and allowance, as a sheet is set.
 pub fn check_settings(stiffness: i64, allowance: i64) -> Result<(), Refusal>
     ensures { λ r. ⌜ r ≡ answer (settings-no stiffness allowance) tt ⌝ }
 {
     if stiffness < 1 || stiffness > 1000 || allowance < 0 || allowance > 1_000_000_000_000 {
-        return Err(Refusal { cause: Cause::Setting, place: 0 });
+        return Err(Refusal {
+            cause: Cause::Setting,
+            place: 0,
+        });
     }
     Ok(())
 }
 
 // A reading that comes after `count` others, the last of them at minute `last`; a refusal names `place`.
-pub fn check_reading(count: usize, place: usize, last: Option<i64>, reading: &Reading) -> Result<(), Refusal>
+pub fn check_reading(
+    count: usize,
+    place: usize,
+    last: Option<i64>,
+    reading: &Reading,
+) -> Result<(), Refusal>
     ensures { λ r. ⌜ r ≡ answer (reading-no count place last (now (reading .entry))) tt ⌝ }
 {
     if count >= 240 {
-        return Err(Refusal { cause: Cause::Full, place });
+        return Err(Refusal {
+            cause: Cause::Full,
+            place,
+        });
     }
     if reading.crude < 0 || reading.crude > 20_000 || reading.weight < 0 || reading.weight > 100 {
-        return Err(Refusal { cause: Cause::Figure, place });
+        return Err(Refusal {
+            cause: Cause::Figure,
+            place,
+        });
     }
     if !may_come(last, reading.minute) {
-        return Err(Refusal { cause: Cause::Minute, place });
+        return Err(Refusal {
+            cause: Cause::Minute,
+            place,
+        });
     }
     Ok(())
 }

@@ -10,12 +10,12 @@ ghost use Rattle.kinds.specs.Penalty.{is-weight, is-denominator};
 ghost use Rattle.objective.specs.Checks.{is-stiffness, is-value, kinds-no, table-no, multipliers-no, columns-no, readings-no, first-column-off};
 ghost use Rattle.objective.specs.Objective.{three};
 ghost use Rattle.std.specs.declared.option.Option.the-variants.{None};
+use crate::kinds::Kinds;
 use kinds::penalty::Penalty;
 use kinds::reading::Reading;
 use kinds::refusal::Cause;
 use kinds::refusal::Refusal;
 use kinds::roughness::Roughness;
-use crate::kinds::Kinds;
 
 // A refusal at the place that a search found.
 fn check_found(cause: Cause, found: Option<usize>) -> Result<(), Refusal>
@@ -34,7 +34,10 @@ fn check_kinds<R: Roughness, M: Penalty, B: Penalty>(kinds: &Kinds<R, M, B>) -> 
     let misfit = kinds.misfit.steepness();
     let bend = kinds.bend.steepness();
     if growth > 2000 || misfit > 100 || bend > 100 {
-        return Err(Refusal { cause: Cause::Steep, place: 0 });
+        return Err(Refusal {
+            cause: Cause::Steep,
+            place: 0,
+        });
     }
     Ok(())
 }
@@ -58,16 +61,27 @@ fn first_off_value(values: &[i64]) -> Option<usize>
 }
 
 // A table for n readings, and the room that its rows need.
-pub(crate) fn check_table<R: Roughness, M: Penalty, B: Penalty>(kinds: &Kinds<R, M, B>, n: usize, table: &[i64], room: usize) -> Result<(), Refusal>
+pub(crate) fn check_table<R: Roughness, M: Penalty, B: Penalty>(
+    kinds: &Kinds<R, M, B>,
+    n: usize,
+    table: &[i64],
+    room: usize,
+) -> Result<(), Refusal>
     ensures { λ r. ⌜ r ≡ answer (table-no (three (R·Roughness .meaning (now (kinds .entry) .roughness)) (M·Penalty .meaning (now (kinds .entry) .misfit)) (B·Penalty .meaning (now (kinds .entry) .bend))) n (now (table .entry)) room) tt ⌝ }
 {
     check_kinds(kinds)?;
     let reach = kinds.roughness.reach();
     if n <= reach {
-        return Err(Refusal { cause: Cause::Short, place: 0 });
+        return Err(Refusal {
+            cause: Cause::Short,
+            place: 0,
+        });
     }
     if table.len() != n || room < n - reach {
-        return Err(Refusal { cause: Cause::Length, place: 0 });
+        return Err(Refusal {
+            cause: Cause::Length,
+            place: 0,
+        });
     }
     check_found(Cause::Value, first_off_value(table))
 }
@@ -86,7 +100,12 @@ fn slope_fits<P: Penalty>(penalty: &P, weight: i64, denominator: i64, slope: i64
 }
 
 // The first multiplier that is not an allowed slope of the bends.
-fn first_off_multiplier<P: Penalty>(bend: &P, stiffness: i64, denominator: i64, multipliers: &[i64]) -> Option<usize>
+fn first_off_multiplier<P: Penalty>(
+    bend: &P,
+    stiffness: i64,
+    denominator: i64,
+    multipliers: &[i64],
+) -> Option<usize>
     requires steep { ⌜ P·Penalty .meaning (now bend) .steepness ≤ 100 ⌝ }
     requires weighs { ⌜ is-weight stiffness ≡ true ⌝ }
     requires divides { ⌜ is-denominator denominator ≡ true ⌝ }
@@ -101,26 +120,50 @@ fn first_off_multiplier<P: Penalty>(bend: &P, stiffness: i64, denominator: i64, 
 }
 
 // Multipliers for n readings, and the room that their columns need.
-pub(crate) fn check_multipliers<R: Roughness, M: Penalty, B: Penalty>(kinds: &Kinds<R, M, B>, stiffness: i64, n: usize, denominator: i64, multipliers: &[i64], room: usize) -> Result<(), Refusal>
+pub(crate) fn check_multipliers<R: Roughness, M: Penalty, B: Penalty>(
+    kinds: &Kinds<R, M, B>,
+    stiffness: i64,
+    n: usize,
+    denominator: i64,
+    multipliers: &[i64],
+    room: usize,
+) -> Result<(), Refusal>
     requires { ⌜ is-stiffness stiffness ≡ true ⌝ }
     ensures { λ r. ⌜ r ≡ answer (multipliers-no (three (R·Roughness .meaning (now (kinds .entry) .roughness)) (M·Penalty .meaning (now (kinds .entry) .misfit)) (B·Penalty .meaning (now (kinds .entry) .bend))) (natAbs stiffness) n denominator (now (multipliers .entry)) room) tt ⌝ }
 {
     check_kinds(kinds)?;
     let reach = kinds.roughness.reach();
     if n <= reach {
-        return Err(Refusal { cause: Cause::Short, place: 0 });
+        return Err(Refusal {
+            cause: Cause::Short,
+            place: 0,
+        });
     }
     if multipliers.len() != n - reach || room < n {
-        return Err(Refusal { cause: Cause::Length, place: 0 });
+        return Err(Refusal {
+            cause: Cause::Length,
+            place: 0,
+        });
     }
     if denominator < 1 || denominator > 1000 {
-        return Err(Refusal { cause: Cause::Denominator, place: 0 });
+        return Err(Refusal {
+            cause: Cause::Denominator,
+            place: 0,
+        });
     }
-    check_found(Cause::Multiplier, first_off_multiplier(&kinds.bend, stiffness, denominator, multipliers))
+    check_found(
+        Cause::Multiplier,
+        first_off_multiplier(&kinds.bend, stiffness, denominator, multipliers),
+    )
 }
 
 // The columns, each negated, as slopes of the misfit at their readings' weights.
-pub(crate) fn check_columns<P: Penalty>(misfit: &P, denominator: i64, columns: &[i64], readings: &[Reading]) -> Result<(), Refusal>
+pub(crate) fn check_columns<P: Penalty>(
+    misfit: &P,
+    denominator: i64,
+    columns: &[i64],
+    readings: &[Reading],
+) -> Result<(), Refusal>
     requires steep { ⌜ P·Penalty .meaning (now misfit) .steepness ≤ 100 ⌝ }
     requires divides { ⌜ is-denominator denominator ≡ true ⌝ }
     requires small { ⌜ largest (now columns) ≤ 1000000000000 ⌝ }
@@ -130,7 +173,10 @@ pub(crate) fn check_columns<P: Penalty>(misfit: &P, denominator: i64, columns: &
 {
     for (place, column) in columns.iter().enumerate() {
         if !slope_fits(misfit, readings[place].weight, denominator, -*column) {
-            return Err(Refusal { cause: Cause::Column, place });
+            return Err(Refusal {
+                cause: Cause::Column,
+                place,
+            });
         }
     }
     Ok(())

@@ -47,7 +47,11 @@ pub(crate) fn misfit_sum<P: Penalty>(misfit: &P, readings: &[Reading], table: &[
 {
     let mut sum = 0;
     for (place, reading) in readings.iter().enumerate() {
-        sum += cost_at(misfit, reading.weight, residual_of(table[place], reading.crude));
+        sum += cost_at(
+            misfit,
+            reading.weight,
+            residual_of(table[place], reading.crude),
+        );
     }
     sum
 }

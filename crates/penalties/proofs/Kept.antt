@@ -9,7 +9,7 @@ use lib.IntN.{ℤ, pos, negsuc, _*ℤ_, negℤ, natAbs}
 use lib.Signed.{_≤ℤ_, leZ}
 use Rattle.kinds.specs.Penalty.{Penalty-laws}
 use Rattle.kinds.proofs.Ring.{neg-mul}
-use Rattle.penalties.specs.Sides.{cost-of, is-between, end-touched, sided}
+use Rattle.penalties.specs.Sides.{sided-cost, is-between, end-touched, sided}
 
 -- Slopes between two ends, the lower one below 0 and the upper one above.
 between-high : (low high : ℕ) (n : ℕ) → (leZ (negℤ (pos low)) (pos n) && leZ (pos n) (pos high)) ≡ true → n ≤ high
@@ -40,7 +40,7 @@ sided-kept m rise fall h = record {
     falls : fall ≤ max rise fall
     falls = omega arith
 
-    slope : (w d : ℕ) (s r : ℤ) → is-between rise fall w d s ≡ true → (s *ℤ r) ≤ℤ pos (d * cost-of rise fall w r)
+    slope : (w d : ℕ) (s r : ℤ) → is-between rise fall w d s ≡ true → (s *ℤ r) ≤ℤ pos (d * sided-cost rise fall w r)
     slope w d (pos m) (pos n) e = omega (arith, ints, mul-le-mul-right n (between-high (d * w * fall) (d * w * rise) m e))
     slope w d (pos m) (negsuc n) e = omega (arith, ints)
     slope w d (negsuc m) (pos n) e = omega (arith, ints)
@@ -51,12 +51,12 @@ sided-kept m rise fall h = record {
     allowed w d (pos (suc n)) = high-between (d * w * fall) (d * w * rise)
     allowed w d (negsuc n) = low-between (d * w * fall) (d * w * rise)
 
-    reaches : (w d : ℕ) (r : ℤ) → end-touched rise fall w d r *ℤ r ≡ pos (d * cost-of rise fall w r)
+    reaches : (w d : ℕ) (r : ℤ) → end-touched rise fall w d r *ℤ r ≡ pos (d * sided-cost rise fall w r)
     reaches w d (pos zero) = omega (arith, ints)
     reaches w d (pos (suc n)) = omega (arith, ints)
     reaches w d (negsuc n) = omega (arith, ints, neg-mul (pos (d * w * fall)) (negsuc n))
 
-    cost-most : (w : ℕ) (r : ℤ) → cost-of rise fall w r ≤ max rise fall * w * natAbs r
+    cost-most : (w : ℕ) (r : ℤ) → sided-cost rise fall w r ≤ max rise fall * w * natAbs r
     cost-most w (pos n) = omega (arith, mul-le-mul-right (w * n) rises)
     cost-most w (negsuc n) = omega (arith, mul-le-mul-right (w * suc n) falls)
 

@@ -1,5 +1,5 @@
 -- Penalties with two sides: a residual above 0 counts `rise` for each unit, and one below 0 counts `fall`.
---     cost-of           what a residual costs at a weight
+--     sided-cost           what a residual costs at a weight
 --     highest-slope     the upper end of the allowed slopes at a weight and a denominator
 --     lowest-slope      their lower end
 --     is-between        whether a slope is allowed: it lies between the two ends
@@ -15,9 +15,9 @@ use lib.Signed.{leZ}
 use Rattle.kinds.specs.Penalty.{Penalty-meaning}
 
 -- of rise, fall, weight and residual
-abbrev pub cost-of : ℕ → ℕ → ℕ → ℤ → ℕ
-cost-of rise fall w (pos n) = w * rise * n
-cost-of rise fall w (negsuc n) = w * fall * suc n
+abbrev pub sided-cost : ℕ → ℕ → ℕ → ℤ → ℕ
+sided-cost rise fall w (pos n) = w * rise * n
+sided-cost rise fall w (negsuc n) = w * fall * suc n
 
 abbrev pub highest-slope : ℕ → ℕ → ℕ → ℤ
 highest-slope rise w d = pos (d * w * rise)
@@ -39,7 +39,7 @@ abbrev pub sided : ℕ → ℕ → ℕ → Penalty-meaning
 sided m rise fall = record {
   steepness = max rise fall;
   mark = m;
-  cost = cost-of rise fall;
+  cost = sided-cost rise fall;
   allows = is-between rise fall;
   touch = end-touched rise fall;
 }

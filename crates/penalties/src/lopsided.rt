@@ -2,7 +2,7 @@
 ghost use mathlib.Core.Path.{_≡_};
 ghost use Prim.Native.Nat.{_≤_};
 ghost use Rattle.kinds.specs.Checks.{answer};
-ghost use Rattle.penalties.specs.Settings.{settings-no, settings-of};
+ghost use Rattle.penalties.specs.Settings.{sides-no, sides-made};
 ghost use Rattle.penalties.specs.Sides.{lopsided};
 use crate::sides;
 use kinds::penalty::Penalty;
@@ -25,7 +25,7 @@ pub struct Lopsided {
 impl Lopsided {
     // Takes a rise and a fall of 1 to 100 each.
     pub fn new(rise: i64, fall: i64) -> Result<Lopsided, Refusal>
-        ensures { λ r. ⌜ settings-of r (λ k. k .rise) (λ k. k .fall) ≡ answer (settings-no rise fall) (rise, fall) ⌝ }
+        ensures { λ r. ⌜ sides-made r (λ k. k .rise) (λ k. k .fall) ≡ answer (sides-no rise fall) (rise, fall) ⌝ }
     {
         if rise < 1 || rise > STEEPEST || fall < 1 || fall > STEEPEST {
             return Err(Refusal {

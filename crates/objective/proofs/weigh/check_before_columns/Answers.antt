@@ -22,5 +22,5 @@ returns g c =
     let r = c .check-multipliers .result in
     let stiff = from-bits (λ (h : ℤ). stiffness-no h ≡ None) h (c .fits .stiffness) (passed _ _ _ (c .in-Continue-check-stiffness .ensures tt)) in
     let last = from-bits (λ (h : ℤ). r ≡ answer (multipliers-no k (natAbs h) (length xs) d ms (c .args .room)) tt) h (c .fits .stiffness)
-        (from-bits (λ (d : ℤ). r ≡ answer (multipliers-no k (natAbs (toZ w64 (ofZ w64 h))) (length xs) d ms (c .args .room)) tt) d (c .fits .denominator) (c .check-multipliers .ensures)) in
+    (from-bits (λ (d : ℤ). r ≡ answer (multipliers-no k (natAbs (toZ w64 (ofZ w64 h))) (length xs) d ms (c .args .room)) tt) d (c .fits .denominator) (c .check-multipliers .ensures)) in
     last-of-three (stiffness-no h) (readings-no xs) (multipliers-no k (natAbs h) (length xs) d ms (c .args .room)) r stiff (passed _ _ _ (c .in-Continue-check-readings .ensures tt)) last

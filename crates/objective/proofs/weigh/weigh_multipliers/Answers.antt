@@ -30,7 +30,7 @@ returns-in-Break-check-before-columns g c =
     let law : Kinds-laws k = record { roughness = g .R·Roughness·met .kept (c .args .kinds .now .roughness); misfit = g .M·Penalty·met .kept (c .args .kinds .now .misfit); bend = g .B·Penalty·met .kept (c .args .kinds .now .bend) } in
     let p = err-from-errBy (c .from-residual .result) (c .from-residual .ensures .1) in
     let no-because = cleaned (λ (h d : ℤ). before-columns-no k h xs d ms (length (c .args .columns .now)) ≡ Some (c .in-Break-check-before-columns .field-0 .0)) h d (c .fits .stiffness) (c .fits .denominator)
-        (refused _ _ _ (c .in-Break-check-before-columns .ensures tt)) in
+    (refused _ _ _ (c .in-Break-check-before-columns .ensures tt)) in
     rw (p .1, p .2) (floor-refused k law h xs d ms (c .args .columns .now) _ (stopped-before k h xs d ms (length (c .args .columns .now)) _ no-because))
 
 pub fill-columns-requires : need.fill-columns-requires

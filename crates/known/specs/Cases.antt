@@ -1,0 +1,59 @@
+-- Worked cases of the definitions: maps, penalties, cost, floor and gap.
+--     Case            figures that a definition gives, and those that it is to give
+--     cases           the table of cases
+--     All-hold        that each case of a table gives what it is to give
+-- `negsuc n` is the whole number n + 1 below 0, so −30 is `negsuc 29`.
+use mathlib.Core.Path.{_≡_}
+use mathlib.Core.Bool.{Bool, true, false, cond}
+use mathlib.Core.List.{List, [], _∷_}
+use Prim.Native.Nat.{ℕ}
+use lib.IntN.{ℤ, pos, negsuc}
+use Rattle.kinds.specs.declared.reading.Reading.{Reading}
+use Rattle.objective.specs.Objective.{Kinds-meaning, three, cost-of, floor-of, within}
+use Rattle.penalties.specs.Sides.{absolute, lopsided}
+use Rattle.roughness.specs.Maps.{first, slope, raised}
+
+pub record Case : Type 0 where
+  pub given : List ℤ
+  pub wanted : List ℤ
+
+-- three minutes, one after the other
+abbrev pub even : List ℤ
+even = pos 0 ∷ pos 1 ∷ pos 2 ∷ []
+
+abbrev pub reading : ℕ → ℕ → Reading
+reading minute crude = record { minute = pos minute; crude = pos crude; weight = pos 1 }
+
+-- three readings of weight 1 under second differences and Absolute twice
+abbrev pub firing : List Reading
+firing = reading 0 100 ∷ reading 1 120 ∷ reading 2 110 ∷ []
+
+abbrev pub plain : Kinds-meaning
+plain = three (raised first) absolute absolute
+
+abbrev pub cost : List ℤ → ℤ
+cost vs = pos (cost-of plain 1 firing vs)
+
+-- 1 where the gap of a table to the multiplier −1 over the denominator 2 is within an allowance, else 0
+abbrev pub fits : List ℤ → ℕ → ℤ
+fits vs allowance = pos (cond (within 2 (cost-of plain 1 firing vs) (floor-of plain firing (negsuc 0 ∷ [])) allowance) 1 0)
+
+abbrev pub cases : List Case
+cases =
+    record { given = raised first .rows even (pos 100 ∷ pos 120 ∷ pos 110 ∷ []); wanted = negsuc 29 ∷ [] }
+    ∷ record { given = raised first .columns even (negsuc 0 ∷ []); wanted = negsuc 0 ∷ pos 2 ∷ negsuc 0 ∷ [] }
+    ∷ record { given = slope .rows (pos 0 ∷ pos 1 ∷ pos 3 ∷ []) (pos 10 ∷ pos 20 ∷ pos 40 ∷ []); wanted = pos 0 ∷ [] }
+    ∷ record { given = slope .rows (pos 0 ∷ pos 1 ∷ pos 3 ∷ []) (pos 10 ∷ pos 20 ∷ pos 30 ∷ []); wanted = negsuc 9 ∷ [] }
+    ∷ record { given = pos (lopsided 3 1 .cost 2 (pos 4)) ∷ []; wanted = pos 24 ∷ [] }
+    ∷ record { given = pos (lopsided 3 1 .cost 2 (negsuc 3)) ∷ []; wanted = pos 8 ∷ [] }
+    ∷ record { given = cost (pos 100 ∷ pos 105 ∷ pos 110 ∷ []) ∷ []; wanted = pos 15 ∷ [] }
+    ∷ record { given = floor-of plain firing (negsuc 0 ∷ []) ∷ []; wanted = pos 30 ∷ [] }
+    ∷ record { given = cost (pos 100 ∷ pos 106 ∷ pos 110 ∷ []) ∷ []; wanted = pos 16 ∷ [] }
+    ∷ record { given = fits (pos 100 ∷ pos 105 ∷ pos 110 ∷ []) 0 ∷ []; wanted = pos 1 ∷ [] }
+    ∷ record { given = fits (pos 100 ∷ pos 106 ∷ pos 110 ∷ []) 0 ∷ []; wanted = pos 0 ∷ [] }
+    ∷ record { given = fits (pos 100 ∷ pos 106 ∷ pos 110 ∷ []) 1 ∷ []; wanted = pos 1 ∷ [] }
+    ∷ []
+
+abbrev pub All-hold : List Case → Type 0
+All-hold [] = Unit {0}
+All-hold (c ∷ cs) = (c .given ≡ c .wanted) × All-hold cs

@@ -1,0 +1,5 @@
+mod Cutting
+mod Decimal
+mod Penalties
+mod Listing
+mod Saying
