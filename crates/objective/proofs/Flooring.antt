@@ -16,14 +16,14 @@ use Rattle.kinds.specs.declared.reading.Reading.{Reading}
 use Rattle.kinds.specs.declared.refusal.Cause.the-variants.{Multiplier, Column}
 use Rattle.kinds.specs.declared.refusal.Refusal.{Refusal}
 use Rattle.kinds.specs.Checks.{located, or-else, first-off, first-off-from, answer}
-use Rattle.kinds.specs.Figures.{largest, over}
+use Rattle.kinds.specs.Figures.{dot, largest, over}
 use Rattle.kinds.specs.Penalty.{Penalty-meaning, Penalty-laws, Weight, Denominator, is-denominator}
 use Rattle.kinds.specs.Roughness.{Roughness-meaning, Roughness-laws, told-reach, told-growth, map-no, filled, Fills}
 use Rattle.kinds.proofs.Passing.{says-no, says-so, mapped-none}
 use Rattle.kinds.proofs.Places.{take-over}
 use Rattle.kinds.proofs.Ring.{mul-most}
 use Rattle.objective.specs.Checks.{is-stiffness, has-figures, stiffness-no, readings-no, readings-no-from, multipliers-no, first-column-off, columns-no, before-columns-no, weigh-multipliers-no}
-use Rattle.objective.specs.Objective.{Kinds-meaning, Kinds-laws, Lawful-multipliers, Bends-allow, Misfits-allow, minutes, columns-of, floor-of}
+use Rattle.objective.specs.Objective.{Kinds-meaning, Kinds-laws, Lawful-multipliers, Bends-allow, Misfits-allow, minutes, crudes, columns-of, floor-of}
 use Rattle.objective.specs.Promises.{Weighs-multipliers}
 use Rattle.objective.proofs.Duality.{Weights, length-minutes, floor-holds, near-best}
 use Rattle.objective.proofs.Noted.{few, lawful-noted, weight-most}
@@ -71,28 +71,6 @@ slopes-most p law steep h d hw hd i (m ∷ ms) e =
 pub multipliers-most : (k : Kinds-meaning) → Penalty-laws (k .bend) → (h : ℤ) (xs : List Reading) (d : ℤ) (ms : List ℤ) (room : ℕ) → Floorable k h xs d ms room → largest ms ≤ 100000000
 multipliers-most k law h xs d ms room f =
     slopes-most (k .bend) law (f .bend-steep) (natAbs h) (natAbs d) (weight-of h (stiffness-weighs h (f .stiff))) (denominator-of d (f .divides)) 0 ms (f .slopes)
-
--- the roughness does not refuse such multipliers
-pub back-passes : (k : Roughness-meaning) (xs : List Reading) (ms : List ℤ) (room : ℕ) → readings-no xs ≡ None → k .growth ≤ 2000 → told-reach k < length xs → length ms ≡ length xs - told-reach k → largest ms ≤ 100000000 → length xs ≤ room → map-no k (minutes xs) ms (length (minutes xs) - told-reach k) (length (minutes xs)) room ≡ None
-back-passes k xs ms room noted grows reaches long small fits =
-    let same = length-minutes xs in
-    let most = few 0 None xs noted (omega arith) in
-    let growth : told-growth k ≤ 2000 = omega arith in
-    mapped-none (told-growth k) (told-reach k) (minutes xs) ms (length (minutes xs) - told-reach k) (length (minutes xs)) room (record {
-      grows = growth;
-      reaches = omega arith;
-      few = omega arith;
-      long = omega arith;
-      fits = omega arith;
-      law = lawful-noted 0 None xs noted;
-      small = omega (arith, mul-most growth small);
-    })
-
-pub backed : (k : Roughness-meaning) (xs : List Reading) (ts ms before after : List ℤ) (r : Result (Unit {0}) Refusal) → ts ≡ minutes xs → map-no k (minutes xs) ms (length (minutes xs) - told-reach k) (length (minutes xs)) (length before) ≡ None → Fills (map-no k ts ms (length ts - told-reach k) (length ts) (length before)) (k .columns ts ms) before after r → (r ≡ Ok tt) × (after ≡ over (k .columns (minutes xs) ms) before)
-backed k xs ts ms before after r cut passes f =
-    let F : List ℤ → Type 0 = λ ts. Fills (map-no k ts ms (length ts - told-reach k) (length ts) (length before)) (k .columns ts ms) before after r in
-    let f′ = subst F cut f in
-    (f′ .answered ∙ ap (λ (c : Option Refusal). answer c tt) passes, f′ .place ∙ ap (λ (c : Option Refusal). filled c (k .columns (minutes xs) ms) before) passes)
 
 -- the columns of such multipliers
 pub record Columned (k : Kinds-meaning) (xs : List Reading) (columns : List ℤ) : Type 0 where
@@ -168,16 +146,14 @@ pub floor-refused : (k : Kinds-meaning) → Kinds-laws k → (h : ℤ) (xs : Lis
 floor-refused k law h xs d ms before r e =
     floored k law h xs d ms before before (Err r) (says-no _ _ r e) (sym (ap (λ (c : Option Refusal). filled c (columns-of k xs ms) before) e))
 
-pub floor-weighed : (k : Kinds-meaning) → Kinds-laws k → (h : ℤ) (xs : List Reading) (d : ℤ) (ms before after : List ℤ) (v : ℤ) → weigh-multipliers-no k h xs d ms (length before) ≡ None → after ≡ over (columns-of k xs ms) before → v ≡ floor-of k xs ms → Weighs-multipliers k h xs d ms before after (Ok v)
-floor-weighed k law h xs d ms before after v e a f =
-    floored k law h xs d ms before after (Ok v) (ap (λ (z : ℤ). Ok z) f ∙ says-so _ _ e) (a ∙ sym (ap (λ (c : Option Refusal). filled c (columns-of k xs ms) before) e))
+-- where the last check decides
+pub floor-settled : (k : Kinds-meaning) → Kinds-laws k → (h : ℤ) (xs : List Reading) (d : ℤ) (ms before after columns : List ℤ) (r : Result ℤ Refusal) → columns ≡ columns-of k xs ms → before-columns-no k h xs d ms (length before) ≡ None → r ≡ answer (columns-no (k .misfit) (natAbs d) columns xs) (dot columns (crudes xs)) → after ≡ filled (columns-no (k .misfit) (natAbs d) columns xs) columns before → Weighs-multipliers k h xs d ms before after r
+floor-settled k law h xs d ms before after columns r cut none value place =
+    let last = ap (λ (c : Option Refusal). or-else c (columns-no (k .misfit) (natAbs d) (columns-of k xs ms) xs)) none in
+    floored k law h xs d ms before after r
+    (value ∙ ap (λ (l : List ℤ). answer (columns-no (k .misfit) (natAbs d) l xs) (dot l (crudes xs))) cut ∙ sym (ap (λ (c : Option Refusal). answer c (floor-of k xs ms)) last))
+    (place ∙ ap (λ (l : List ℤ). filled (columns-no (k .misfit) (natAbs d) l xs) l before) cut ∙ sym (ap (λ (c : Option Refusal). filled c (columns-of k xs ms) before) last))
 
--- where the checks stop
+-- where an earlier check decides
 pub stopped-before : (k : Kinds-meaning) (h : ℤ) (xs : List Reading) (d : ℤ) (ms : List ℤ) (room : ℕ) (r : Refusal) → before-columns-no k h xs d ms room ≡ Some r → weigh-multipliers-no k h xs d ms room ≡ Some r
 stopped-before k h xs d ms room r e = ap (λ (c : Option Refusal). or-else c (columns-no (k .misfit) (natAbs d) (columns-of k xs ms) xs)) e
-
-pub stopped-at : (k : Kinds-meaning) (h : ℤ) (xs : List Reading) (d : ℤ) (ms : List ℤ) (room : ℕ) (r : Refusal) → before-columns-no k h xs d ms room ≡ None → columns-no (k .misfit) (natAbs d) (columns-of k xs ms) xs ≡ Some r → weigh-multipliers-no k h xs d ms room ≡ Some r
-stopped-at k h xs d ms room r e f = ap (λ (c : Option Refusal). or-else c (columns-no (k .misfit) (natAbs d) (columns-of k xs ms) xs)) e ∙ f
-
-pub passed-both : (k : Kinds-meaning) (h : ℤ) (xs : List Reading) (d : ℤ) (ms : List ℤ) (room : ℕ) → before-columns-no k h xs d ms room ≡ None → columns-no (k .misfit) (natAbs d) (columns-of k xs ms) xs ≡ None → weigh-multipliers-no k h xs d ms room ≡ None
-passed-both k h xs d ms room e f = ap (λ (c : Option Refusal). or-else c (columns-no (k .misfit) (natAbs d) (columns-of k xs ms) xs)) e ∙ f

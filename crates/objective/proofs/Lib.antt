@@ -5,4 +5,5 @@ pub mod Slopes
 pub mod Totals
 pub mod Weighing
 pub mod Flooring
+pub mod Mapping
 pub mod Margins

@@ -63,30 +63,6 @@ values-most i (v ∷ vs) e =
     let more = values-most (i + 1) vs (grind arith) in
     omega arith
 
--- what is cut from the array of minutes
-pub cut-minutes : (xs : List Reading) (place old : List ℤ) → place ≡ over (minutes xs) old → take (length xs - 0) place ≡ minutes xs
-cut-minutes xs place old e =
-    let long = length-minutes xs in
-    ap (take (length xs - 0)) e ∙ take-over (length xs - 0) (minutes xs) old (omega arith)
-
--- the roughness does not refuse what has passed these checks
-pub forward-passes : (k : Kinds-meaning) (xs : List Reading) (vs : List ℤ) (room : ℕ) → readings-no xs ≡ None → Offered k (length xs) vs room → map-no (k .roughness) (minutes xs) vs (length (minutes xs)) (length (minutes xs) - told-reach (k .roughness)) room ≡ None
-forward-passes k xs vs room noted o =
-    let long = length-minutes xs in
-    let most = few 0 None xs noted (omega arith) in
-    let reaches = o .reaches in
-    let fits = o .fits in
-    let growth : told-growth (k .roughness) ≤ 2000 = omega (arith, o .grows) in
-    mapped-none (told-growth (k .roughness)) (told-reach (k .roughness)) (minutes xs) vs (length (minutes xs)) (length (minutes xs) - told-reach (k .roughness)) room (record {
-      grows = growth;
-      reaches = omega arith;
-      few = omega arith;
-      long = omega (arith, o .long);
-      fits = omega arith;
-      law = lawful-noted 0 None xs noted;
-      small = omega (arith, mul-most growth (values-most 0 vs (o .values)));
-    })
-
 pub table-refused : (k : Kinds-meaning) (h : ℤ) (xs : List Reading) (vs before : List ℤ) (r : Refusal) → weigh-table-no k h xs vs (length before) ≡ Some r → Weighs-table k h xs vs before before (Err r)
 table-refused k h xs vs before r e = record { answered = says-no _ _ r e; place = sym (ap (λ (c : Option Refusal). filled c (rows-of k xs vs) before) e) }
 
@@ -134,13 +110,6 @@ weighable k h xs vs room e =
     let b = both-none (readings-no xs) _ (a .1) in
     let c = both-none (table-no k (length xs) vs room) None (b .1) in
     record { stiff = is-stiff h (a .0); noted = b .0; offer = offered k (length xs) vs room (c .0) }
-
-pub forwarded : (k : Kinds-meaning) (xs : List Reading) (ts vs before after : List ℤ) (r : Result (Unit {0}) Refusal) → ts ≡ minutes xs → readings-no xs ≡ None → Offered k (length xs) vs (length before) → Fills (map-no (k .roughness) ts vs (length ts) (length ts - told-reach (k .roughness)) (length before)) (k .roughness .rows ts vs) before after r → (r ≡ Ok tt) × (after ≡ over (rows-of k xs vs) before)
-forwarded k xs ts vs before after r cut noted o f =
-    let F : List ℤ → Type 0 = λ ts. Fills (map-no (k .roughness) ts vs (length ts) (length ts - told-reach (k .roughness)) (length before)) (k .roughness .rows ts vs) before after r in
-    let f′ = subst F cut f in
-    let passes = forward-passes k xs vs (length before) noted o in
-    (f′ .answered ∙ ap (λ (c : Option Refusal). answer c tt) passes, f′ .place ∙ ap (λ (c : Option Refusal). filled c (rows-of k xs vs) before) passes)
 
 -- the rows that are read again from the caller's place
 pub cut-rows : (k : Kinds-meaning) → Roughness-laws (k .roughness) → (xs : List Reading) (vs before after : List ℤ) (count : ℕ) → readings-no xs ≡ None → Offered k (length xs) vs (length before) → after ≡ over (rows-of k xs vs) before → count ≡ length xs - told-reach (k .roughness) → take (count - 0) after ≡ rows-of k xs vs

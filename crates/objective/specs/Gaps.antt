@@ -1,5 +1,5 @@
 -- The gap of a cost to a floor, as it is told.
---     gap-no          the checks of a denominator and an allowance
+--     gap-no          the checks of an allowance and a denominator
 --     gap-told        the gap, what the allowance leaves of it, and whether it is within
 use mathlib.Core.List.{[], _∷_}
 use Prim.Native.Nat.{ℕ, _*_}
@@ -14,7 +14,7 @@ use Rattle.objective.specs.Checks.{is-allowance}
 use Rattle.objective.specs.Objective.{gap-of, within}
 
 abbrev pub gap-no : ℤ → ℤ → Option Refusal
-gap-no d allowance = first-of (unless (is-denominator d) (at Denominator 0) ∷ unless (is-allowance allowance) (at Setting 0) ∷ [])
+gap-no d allowance = first-of (unless (is-allowance allowance) (at Setting 0) ∷ unless (is-denominator d) (at Denominator 0) ∷ [])
 
 -- of cost, floor, denominator and allowance
 abbrev pub gap-told : ℕ → ℤ → ℕ → ℕ → Gap

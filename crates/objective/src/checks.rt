@@ -1,20 +1,13 @@
-// The checks of settings, readings, tables and multipliers.
+// The checks of settings and readings.
 ghost use mathlib.Core.Path.{_≡_};
-ghost use Prim.Native.Nat.{_≤_};
-ghost use lib.IntN.{natAbs};
-ghost use lib.ListN.{length};
-ghost use Rattle.kinds.specs.Checks.{answer, first-off};
-ghost use Rattle.objective.specs.Checks.{settings-no, stiffness-no, reading-no, readings-no, kinds-no, table-no, multipliers-no, columns-no, is-value};
-ghost use Rattle.objective.specs.Objective.{three};
-use crate::kinds::Kinds;
+ghost use Rattle.kinds.specs.Checks.{answer};
+ghost use Rattle.objective.specs.Checks.{settings-no, reading-no, readings-no};
 use kinds::minutes::may_come;
-use kinds::penalty::Penalty;
 use kinds::reading::Reading;
 use kinds::refusal::Cause;
 use kinds::refusal::Refusal;
-use kinds::roughness::Roughness;
 
-// Stiffness and allowance, as a sheet is set.
+// A stiffness of 1 to 1,000 and an allowance of 0 to 10^12.
 pub fn check_settings(stiffness: i64, allowance: i64) -> Result<(), Refusal>
     ensures { λ r. ⌜ r ≡ answer (settings-no stiffness allowance) tt ⌝ }
 {

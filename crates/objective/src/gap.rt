@@ -20,19 +20,19 @@ pub struct Gap {
     pub within: bool,
 }
 
-// Compares the gap with an allowance; refused where the denominator is not 1 to 1,000 or the allowance not 0 to 10^12.
+// Compares the gap with an allowance of 0 to 10^12, over a denominator of 1 to 1,000.
 pub fn gap_between(cost: u64, floor: i64, denominator: i64, allowance: i64) -> Result<Gap, Refusal>
     ensures { λ r. ⌜ r ≡ answer (gap-no denominator allowance) (gap-told cost floor (natAbs denominator) (natAbs allowance)) ⌝ }
 {
-    if denominator < 1 || denominator > 1000 {
-        return Err(Refusal {
-            cause: Cause::Denominator,
-            place: 0,
-        });
-    }
     if allowance < 0 || allowance > 1_000_000_000_000 {
         return Err(Refusal {
             cause: Cause::Setting,
+            place: 0,
+        });
+    }
+    if denominator < 1 || denominator > 1000 {
+        return Err(Refusal {
+            cause: Cause::Denominator,
             place: 0,
         });
     }

@@ -3,5 +3,6 @@ pub mod checks;
 pub mod gap;
 pub mod kinds;
 mod offers;
+mod places;
 mod sums;
 pub mod weigh;

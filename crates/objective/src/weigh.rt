@@ -1,21 +1,25 @@
 // Weighing a table and multipliers on lent readings.
+ghost use mathlib.Core.Bool.{true};
 ghost use mathlib.Core.Path.{_≡_};
-ghost use Prim.Native.Nat.{_-_, _≤_, _<_};
-ghost use lib.ListN.{length};
+ghost use Prim.Native.Nat.{_+_, _≤_};
 ghost use lib.IntN.{natAbs};
-ghost use Rattle.kinds.specs.Figures.{over, largest};
-ghost use Rattle.objective.specs.Checks.{stiffness-no, readings-no, weigh-table-no, before-columns-no};
-ghost use Rattle.objective.specs.Objective.{three, minutes, cost-of, rows-of};
-ghost use Rattle.kinds.specs.Roughness.{told-reach};
-ghost use Rattle.std.specs.declared.option.Option.the-variants.{None};
-ghost use Rattle.std.specs.declared.result.Result.the-variants.{Ok};
+ghost use lib.ListN.{length};
+ghost use Rattle.kinds.specs.Checks.{answer, first-off};
+ghost use Rattle.kinds.specs.Figures.{dot, largest};
+ghost use Rattle.kinds.specs.Penalty.{is-denominator};
+ghost use Rattle.kinds.specs.Roughness.{filled};
+ghost use Rattle.objective.specs.Checks.{is-stiffness, is-value, stiffness-no, readings-no, columns-no, weigh-table-no, before-columns-no};
+ghost use Rattle.objective.specs.Objective.{three, crudes, misfit-cost, bend-cost};
 ghost use Rattle.objective.specs.Promises.{Weighs-table, Weighs-multipliers};
-ghost use Rattle.kinds.specs.Checks.{answer};
+ghost use Rattle.std.specs.declared.option.Option.the-variants.{None};
 use crate::checks::check_readings;
 use crate::kinds::Kinds;
 use crate::offers::check_columns;
 use crate::offers::check_multipliers;
 use crate::offers::check_table;
+use crate::places::fill;
+use crate::places::fill_columns;
+use crate::places::fill_rows;
 use crate::sums::bend_sum;
 use crate::sums::floor_sum;
 use crate::sums::misfit_sum;
@@ -37,26 +41,6 @@ fn check_stiffness(stiffness: i64) -> Result<(), Refusal>
     Ok(())
 }
 
-// Writes the minutes of the readings at the start of `place`.
-fn fill_minutes(readings: &[Reading], place: &mut [i64])
-    requires { ⌜ length (now readings) ≤ length (now place) ⌝ }
-    ensures { λ _. ⌜ now (place .exit) ≡ over (minutes (now (readings .entry))) (now (place .entry)) ⌝ }
-{
-    for (at, reading) in readings.iter().enumerate() {
-        place[at] = reading.minute;
-    }
-}
-
-// Writes `figures` at the start of `place`.
-fn fill(figures: &[i64], place: &mut [i64])
-    requires { ⌜ length (now figures) ≤ length (now place) ⌝ }
-    ensures { λ _. ⌜ now (place .exit) ≡ over (now (figures .entry)) (now (place .entry)) ⌝ }
-{
-    for (at, figure) in figures.iter().enumerate() {
-        place[at] = *figure;
-    }
-}
-
 fn check_weigh_table<R: Roughness, M: Penalty, B: Penalty>(
     kinds: &Kinds<R, M, B>,
     stiffness: i64,
@@ -71,26 +55,26 @@ fn check_weigh_table<R: Roughness, M: Penalty, B: Penalty>(
     check_table(kinds, readings.len(), table, room)
 }
 
-// The cost and the rows of a table that has passed its checks.
-fn cost_and_rows<R: Roughness, M: Penalty, B: Penalty>(
-    kinds: &Kinds<R, M, B>,
+// The cost of a table and its rows.
+fn total_cost<M: Penalty, B: Penalty>(
+    misfit: &M,
+    bend: &B,
     stiffness: i64,
     readings: &[Reading],
     table: &[i64],
-    rows: &mut [i64],
-) -> Result<u64, Refusal>
-    requires { ⌜ weigh-table-no (three (R·Roughness .meaning (now kinds .roughness)) (M·Penalty .meaning (now kinds .misfit)) (B·Penalty .meaning (now kinds .bend))) stiffness (now readings) (now table) (length (now rows)) ≡ None ⌝ }
-    ensures value { λ r. ⌜ r ≡ Ok (cost-of (three (R·Roughness .meaning (now (kinds .entry) .roughness)) (M·Penalty .meaning (now (kinds .entry) .misfit)) (B·Penalty .meaning (now (kinds .entry) .bend))) (natAbs stiffness) (now (readings .entry)) (now (table .entry))) ⌝ }
-    ensures place { λ _. ⌜ now (rows .exit) ≡ over (rows-of (three (R·Roughness .meaning (now (kinds .entry) .roughness)) (M·Penalty .meaning (now (kinds .entry) .misfit)) (B·Penalty .meaning (now (kinds .entry) .bend))) (now (readings .entry)) (now (table .entry))) (now (rows .entry)) ⌝ }
+    rows: &[i64],
+) -> u64
+    requires misfit_steep { ⌜ M·Penalty .meaning (now misfit) .steepness ≤ 100 ⌝ }
+    requires bend_steep { ⌜ B·Penalty .meaning (now bend) .steepness ≤ 100 ⌝ }
+    requires stiff { ⌜ is-stiffness stiffness ≡ true ⌝ }
+    requires noted { ⌜ readings-no (now readings) ≡ None ⌝ }
+    requires values { ⌜ first-off is-value (now table) ≡ None ⌝ }
+    requires long { ⌜ length (now table) ≡ length (now readings) ⌝ }
+    requires small { ⌜ largest (now rows) ≤ 40000000 ⌝ }
+    requires few { ⌜ length (now rows) ≤ 240 ⌝ }
+    ensures { λ r. ⌜ r ≡ misfit-cost (M·Penalty .meaning (now (misfit .entry))) (now (readings .entry)) (now (table .entry)) + bend-cost (B·Penalty .meaning (now (bend .entry))) (natAbs stiffness) (now (rows .entry)) ⌝ }
 {
-    let n = readings.len();
-    let mut minutes = [0; 240];
-    fill_minutes(readings, &mut minutes);
-    kinds.roughness.forward(&minutes[0..n], table, rows)?;
-    let count = n - kinds.roughness.reach();
-    let misfit = misfit_sum(&kinds.misfit, readings, table);
-    let bend = bend_sum(&kinds.bend, stiffness, &rows[0..count]);
-    Ok(misfit + bend)
+    misfit_sum(misfit, readings, table) + bend_sum(bend, stiffness, rows)
 }
 
 // The cost of a table, with its rows written at the start of `rows`.
@@ -104,7 +88,16 @@ pub fn weigh_table<R: Roughness, M: Penalty, B: Penalty>(
     ensures { λ r. ⌜ Weighs-table (three (R·Roughness .meaning (now (kinds .entry) .roughness)) (M·Penalty .meaning (now (kinds .entry) .misfit)) (B·Penalty .meaning (now (kinds .entry) .bend))) stiffness (now (readings .entry)) (now (table .entry)) (now (rows .entry)) (now (rows .exit)) r ⌝ }
 {
     check_weigh_table(kinds, stiffness, readings, table, rows.len())?;
-    cost_and_rows(kinds, stiffness, readings, table, rows)
+    fill_rows(&kinds.roughness, readings, table, rows)?;
+    let count = readings.len() - kinds.roughness.reach();
+    Ok(total_cost(
+        &kinds.misfit,
+        &kinds.bend,
+        stiffness,
+        readings,
+        table,
+        &rows[0..count],
+    ))
 }
 
 // All checks of multipliers but the last, which needs their columns.
@@ -130,26 +123,26 @@ fn check_before_columns<R: Roughness, M: Penalty, B: Penalty>(
     )
 }
 
-// Writes the columns of multipliers that have passed these checks at the start of `place`.
-fn fill_columns<R: Roughness>(
-    roughness: &R,
+// The floor of columns, which are copied to the start of `place` once they are known to be allowed.
+fn floor_of<M: Penalty>(
+    misfit: &M,
+    denominator: i64,
     readings: &[Reading],
-    multipliers: &[i64],
+    columns: &[i64],
     place: &mut [i64],
-) -> Result<(), Refusal>
+) -> Result<i64, Refusal>
+    requires steep { ⌜ M·Penalty .meaning (now misfit) .steepness ≤ 100 ⌝ }
+    requires divides { ⌜ is-denominator denominator ≡ true ⌝ }
     requires noted { ⌜ readings-no (now readings) ≡ None ⌝ }
-    requires grows { ⌜ R·Roughness .meaning (now roughness) .growth ≤ 2000 ⌝ }
-    requires reaches { ⌜ told-reach (R·Roughness .meaning (now roughness)) < length (now readings) ⌝ }
-    requires long { ⌜ length (now multipliers) ≡ length (now readings) - told-reach (R·Roughness .meaning (now roughness)) ⌝ }
-    requires small { ⌜ largest (now multipliers) ≤ 100000000 ⌝ }
+    requires small { ⌜ largest (now columns) ≤ 1000000000000 ⌝ }
+    requires long { ⌜ length (now columns) ≡ length (now readings) ⌝ }
     requires room { ⌜ length (now readings) ≤ length (now place) ⌝ }
-    ensures value { λ r. ⌜ r ≡ Ok tt ⌝ }
-    ensures place { λ _. ⌜ now (place .exit) ≡ over (R·Roughness .meaning (now (roughness .entry)) .columns (minutes (now (readings .entry))) (now (multipliers .entry))) (now (place .entry)) ⌝ }
+    ensures value { λ r. ⌜ r ≡ answer (columns-no (M·Penalty .meaning (now (misfit .entry))) (natAbs denominator) (now (columns .entry)) (now (readings .entry))) (dot (now (columns .entry)) (crudes (now (readings .entry)))) ⌝ }
+    ensures place { λ _. ⌜ now (place .exit) ≡ filled (columns-no (M·Penalty .meaning (now (misfit .entry))) (natAbs denominator) (now (columns .entry)) (now (readings .entry))) (now (columns .entry)) (now (place .entry)) ⌝ }
 {
-    let n = readings.len();
-    let mut minutes = [0; 240];
-    fill_minutes(readings, &mut minutes);
-    roughness.back(&minutes[0..n], multipliers, place)
+    check_columns(misfit, denominator, columns, readings)?;
+    fill(columns, place);
+    Ok(floor_sum(columns, readings))
 }
 
 // The floor of multipliers over a denominator, with their columns written at the start of `columns`. No table, of
@@ -175,7 +168,5 @@ pub fn weigh_multipliers<R: Roughness, M: Penalty, B: Penalty>(
     let n = readings.len();
     let mut found = [0; 240];
     fill_columns(&kinds.roughness, readings, multipliers, &mut found)?;
-    check_columns(&kinds.misfit, denominator, &found[0..n], readings)?;
-    fill(&found[0..n], columns);
-    Ok(floor_sum(&found[0..n], readings))
+    floor_of(&kinds.misfit, denominator, readings, &found[0..n], columns)
 }

@@ -7,7 +7,7 @@ use mir.Val.{SFits}
 use Rattle.std.proofs.shelf.Lists.{drop-more, drop-all}
 use Rattle.std.proofs.shelf.Signed.{toZ-ofZ}
 use Rattle.kinds.proofs.Places.{written-none, written-more, written-all}
-use Rattle.objective.proofs.weigh.fill.Needs as need
+use Rattle.objective.proofs.places.fill.Needs as need
 
 pub loop-at-holds : need.loop-at-holds
 loop-at-holds c = written-none _ _

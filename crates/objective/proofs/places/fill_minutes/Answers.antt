@@ -8,7 +8,7 @@ use Rattle.std.proofs.shelf.Signed.{toZ-ofZ}
 use Rattle.kinds.proofs.Places.{written-none, written-more, written-all}
 use Rattle.objective.specs.Objective.{minutes}
 use Rattle.objective.proofs.Noted.{blank}
-use Rattle.objective.proofs.weigh.fill_minutes.Needs as need
+use Rattle.objective.proofs.places.fill_minutes.Needs as need
 
 pub loop-at-holds : need.loop-at-holds
 loop-at-holds c = written-none _ _
