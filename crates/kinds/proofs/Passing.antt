@@ -1,7 +1,7 @@
 -- Checks that pass or stop.
 use mathlib.Core.Path.{_≡_, refl, ap, sym, _∙_}
-use mathlib.Core.Bool.{Bool, true, false, cond, _&&_}
-use mathlib.Core.List.{List, [], _∷_}
+use mathlib.Core.Bool.{true}
+use mathlib.Core.List.{List, _∷_}
 use Prim.Native.Nat.{ℕ, _*_, _≤_, _<_}
 use native.Mathlib.Omega.{arith}
 use lib.IntN.{ℤ}
@@ -11,7 +11,7 @@ use Rattle.std.specs.declared.option.Option.the-variants.{Some, None}
 use Rattle.std.specs.declared.result.Result.{Result}
 use Rattle.std.specs.declared.result.Result.the-variants.{Ok, Err}
 use Rattle.kinds.specs.declared.refusal.Refusal.{Refusal}
-use Rattle.kinds.specs.Checks.{unless, first-of, or-else, answer}
+use Rattle.kinds.specs.Checks.{first-of, or-else, answer}
 use Rattle.kinds.specs.Figures.{largest}
 use Rattle.kinds.specs.Minutes.{lawful}
 use Rattle.kinds.specs.Roughness.{told-no}

@@ -6,7 +6,7 @@ use Prim.Native.Nat.{ℕ, zero, suc, _+_, _≤_, _<_}
 use native.Mathlib.Omega.{arith}
 use lib.IntN.{ℤ, pos, natAbs}
 use lib.ListN.{length, take, drop, set, getD}
-use Rattle.std.proofs.shelf.Lists.{append-assoc, append-nil, take-more-set, drop-set-lt, drop-drop, take-append-drop, length-take-le, take-at, length-drop, length-append}
+use Rattle.std.proofs.shelf.Lists.{append-assoc, append-nil, take-more-set, drop-set-lt, drop-drop, take-append-drop, length-take-le, take-at}
 use Rattle.kinds.specs.Figures.{largest, over}
 
 pub record Written (k : ℕ) (rest new old place : List ℤ) : Type 0 where

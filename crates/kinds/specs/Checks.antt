@@ -7,7 +7,7 @@
 --     first-off       the first place of a list at which a test fails
 --     first-off-from  the same, of a list that begins at a place
 --     answer          what a call answers after its checks: its value if they pass
-use mathlib.Core.Bool.{Bool, true, false, cond}
+use mathlib.Core.Bool.{Bool, cond}
 use mathlib.Core.List.{List, [], _∷_}
 use Prim.Native.Nat.{ℕ, _+_}
 use Rattle.std.specs.declared.option.Option.{Option}

@@ -4,7 +4,7 @@
 --     may-come        whether a minute can come next, after the last one that is given or as the first
 --     lawful-from     whether minutes can come after others, the last of which is given, or after none
 --     lawful          whether minutes are lawful
-use mathlib.Core.Bool.{Bool, true, false, _&&_}
+use mathlib.Core.Bool.{Bool, true, _&&_}
 use mathlib.Core.List.{List, [], _∷_}
 use lib.IntN.{ℤ, pos, _+ℤ_}
 use lib.Signed.{ltZ, leZ}

@@ -8,7 +8,7 @@
 --     Fills           a call answers by its checks, and fills the start of its place only if they pass
 --     Forwards, Backs       what forward and back do: of minutes, input, the place before and after, and the answer
 use mathlib.Core.Path.{_≡_}
-use mathlib.Core.Bool.{Bool, true, _&&_}
+use mathlib.Core.Bool.{true, _&&_}
 use mathlib.Core.List.{List, [], _∷_}
 use Prim.Native.Nat.{ℕ, _+_, _-_, _*_, _≤_, min}
 use lib.Dec.{leb, ltb, eqb}

@@ -4,7 +4,7 @@
 --     All-hold        that each case of a table gives what it is to give
 -- `negsuc n` is the whole number n + 1 below 0, so −30 is `negsuc 29`.
 use mathlib.Core.Path.{_≡_}
-use mathlib.Core.Bool.{Bool, true, false, cond}
+use mathlib.Core.Bool.{cond}
 use mathlib.Core.List.{List, [], _∷_}
 use Prim.Native.Nat.{ℕ}
 use lib.IntN.{ℤ, pos, negsuc}

@@ -1,5 +1,4 @@
 // The kinds of roughness that the programs know.
-ghost use Prim.Native.Nat.{_<_};
 ghost use Rattle.known.specs.Known.{roughness-meaning, Raises};
 ghost use Rattle.roughness.specs.Maps.{first, slope};
 use kinds::refusal::Refusal;

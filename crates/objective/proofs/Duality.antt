@@ -1,19 +1,18 @@
 -- Weak duality: a floor of lawful multipliers holds for every table, for any kinds that keep their laws.
-use mathlib.Core.Path.{_≡_, refl, ap, sym, _∙_}
-use mathlib.Core.Bool.{Bool, true}
+use mathlib.Core.Path.{_≡_, refl, ap}
 use mathlib.Core.List.{List, [], _∷_}
-use Prim.Native.Nat.{ℕ, zero, suc, _+_, _*_, _≤_}
+use Prim.Native.Nat.{ℕ, suc, _*_, _≤_}
 use native.Mathlib.Omega.{arith}
 use native.Mathlib.Nat.{mul-add, le-of-mul-le-mul-left}
 use borrow.Author.Differences.{ints, le-out, at-most-in, le-true}
-use lib.IntN.{ℤ, pos, _+ℤ_, _-ℤ_, _*ℤ_, negℤ, natAbs}
+use lib.IntN.{ℤ, pos, _+ℤ_, _-ℤ_, negℤ, natAbs}
 use lib.Signed.{_≤ℤ_}
 use lib.ListN.{length}
 use Rattle.kinds.specs.declared.reading.Reading.{Reading}
 use Rattle.kinds.specs.Figures.{dot}
 use Rattle.kinds.specs.Penalty.{Penalty-meaning, Penalty-laws, Weight, Denominator}
 use Rattle.kinds.proofs.Ring.{ring, linear}
-use Rattle.objective.specs.Objective.{Kinds-meaning, Kinds-laws, Lawful-multipliers, Bends-allow, Misfits-allow, minutes, crudes, misfit-cost, bend-cost, rows-of, columns-of, cost-of, floor-of, within}
+use Rattle.objective.specs.Objective.{Kinds-meaning, Kinds-laws, Lawful-multipliers, Bends-allow, Misfits-allow, minutes, crudes, misfit-cost, bend-cost, rows-of, columns-of, cost-of, floor-of}
 use Rattle.objective.specs.Promises.{No-table-beats, Near-best}
 
 -- every weight is one of which the laws speak

@@ -1,25 +1,24 @@
 -- From the checks of multipliers to their floor and what it says.
 --     Floorable         what multipliers that pass all checks but that of the columns are
-use mathlib.Core.Path.{_≡_, refl, ap, sym, subst, _∙_}
-use mathlib.Core.Bool.{Bool, true, false}
+use mathlib.Core.Path.{_≡_, ap, sym, _∙_}
+use mathlib.Core.Bool.{true}
 use mathlib.Core.List.{List, [], _∷_}
-use Prim.Native.Nat.{ℕ, zero, suc, _+_, _-_, _*_, _≤_, _<_, min, max}
+use Prim.Native.Nat.{ℕ, _+_, _-_, _≤_, _<_}
 use native.Mathlib.Omega.{arith}
-use borrow.Author.Differences.{ints}
-use lib.IntN.{ℤ, pos, negℤ, natAbs}
-use lib.ListN.{length, take, drop, getD}
+use lib.IntN.{ℤ, natAbs}
+use lib.ListN.{length, take}
 use Rattle.std.specs.declared.option.Option.{Option}
 use Rattle.std.specs.declared.option.Option.the-variants.{Some, None}
 use Rattle.std.specs.declared.result.Result.{Result}
-use Rattle.std.specs.declared.result.Result.the-variants.{Ok, Err}
+use Rattle.std.specs.declared.result.Result.the-variants.{Err}
 use Rattle.kinds.specs.declared.reading.Reading.{Reading}
 use Rattle.kinds.specs.declared.refusal.Cause.the-variants.{Multiplier, Column}
 use Rattle.kinds.specs.declared.refusal.Refusal.{Refusal}
-use Rattle.kinds.specs.Checks.{located, or-else, first-off, first-off-from, answer}
+use Rattle.kinds.specs.Checks.{or-else, first-off, first-off-from, answer}
 use Rattle.kinds.specs.Figures.{dot, largest, over}
 use Rattle.kinds.specs.Penalty.{Penalty-meaning, Penalty-laws, Weight, Denominator, is-denominator}
-use Rattle.kinds.specs.Roughness.{Roughness-meaning, Roughness-laws, told-reach, told-growth, map-no, filled, Fills}
-use Rattle.kinds.proofs.Passing.{says-no, says-so, mapped-none}
+use Rattle.kinds.specs.Roughness.{Roughness-laws, told-reach, filled}
+use Rattle.kinds.proofs.Passing.{says-no}
 use Rattle.kinds.proofs.Places.{take-over}
 use Rattle.kinds.proofs.Ring.{mul-most}
 use Rattle.objective.specs.Checks.{is-stiffness, has-figures, stiffness-no, readings-no, readings-no-from, multipliers-no, first-column-off, columns-no, before-columns-no, weigh-multipliers-no}

@@ -8,7 +8,7 @@ use lib.ListN.{length, drop, getD}
 use Rattle.std.specs.declared.option.Option.{Option}
 use Rattle.std.specs.declared.option.Option.the-variants.{Some, None}
 use Rattle.std.proofs.shelf.Lists.{at-drop-more, at-drop-all}
-use Rattle.kinds.specs.Checks.{first-off-from, first-off}
+use Rattle.kinds.specs.Checks.{first-off-from}
 
 module _ {X : Type 0} (test : X → Bool) (xs : List X) (i : ℕ) (d : X) (found : Option ℕ) (h : i < length xs) (inv : first-off-from test i (drop i xs) ≡ found) where
   here : cond (test (getD xs i d)) (first-off-from test (i + 1) (drop (i + 1) xs)) (Some i) ≡ found

@@ -1,18 +1,17 @@
 -- Slopes that a kind of penalty answers for.
 use mathlib.Core.Path.{_≡_, refl, ap, sym, _∙_}
-use mathlib.Core.Bool.{Bool, true, false, cond, _&&_}
-use mathlib.Core.List.{List, [], _∷_}
-use Prim.Native.Nat.{ℕ, zero, suc, _+_, _*_, _≤_, _<_}
+use mathlib.Core.Bool.{Bool, true, false, cond}
+use mathlib.Core.List.{List, _∷_}
+use Prim.Native.Nat.{ℕ, _+_, _≤_, _<_}
 use native.Mathlib.Omega.{arith}
 use borrow.Author.Differences.{ints}
-use lib.Dec.{leb}
 use lib.IntN.{ℤ, pos, negℤ, natAbs}
 use lib.ListN.{length, drop, getD}
 use Rattle.std.specs.declared.option.Option.{Option}
 use Rattle.std.specs.declared.option.Option.the-variants.{Some, None}
 use Rattle.std.proofs.shelf.Lists.{drop-more, at-drop-all}
 use Rattle.kinds.specs.declared.reading.Reading.{Reading}
-use Rattle.kinds.specs.Penalty.{Penalty-meaning, Penalty-laws, Weight, Denominator, is-weight, is-denominator, is-slope, allows-answer}
+use Rattle.kinds.specs.Penalty.{Penalty-meaning, Penalty-laws, Weight, Denominator, is-weight, is-denominator, allows-answer}
 use Rattle.kinds.proofs.Ring.{mul-most}
 use Rattle.objective.specs.Checks.{first-column-off}
 use Rattle.objective.proofs.Noted.{blank}

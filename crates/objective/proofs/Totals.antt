@@ -1,23 +1,23 @@
 -- The running sums of cost and floor, and the sizes of their terms.
-use mathlib.Core.Path.{_≡_, refl, ap, ap₂, sym, _∙_}
-use mathlib.Core.Bool.{Bool, true, false, cond}
-use mathlib.Core.List.{List, [], _∷_}
+use mathlib.Core.Path.{_≡_, ap, ap₂, _∙_}
+use mathlib.Core.Bool.{true}
+use mathlib.Core.List.{List}
 use Prim.Native.Nat.{ℕ, _+_, _*_, _≤_, _<_}
 use native.Mathlib.Omega.{arith}
 use borrow.Author.Differences.{ints}
 use lib.IntN.{ℤ, pos, _+ℤ_, _-ℤ_, _*ℤ_, natAbs}
 use lib.ListN.{length, drop, getD}
 use mir.Syntax.{w64}
-use mir.Val.{SFits, toZ, ofZ}
+use mir.Val.{toZ, ofZ}
 use Rattle.std.specs.declared.option.Option.the-variants.{Some, None}
-use Rattle.std.proofs.shelf.Lists.{drop-more, at-drop-more, at-drop-all}
+use Rattle.std.proofs.shelf.Lists.{drop-more, at-drop-all}
 use Rattle.kinds.specs.declared.reading.Reading.{Reading}
 use Rattle.kinds.specs.Figures.{dot}
 use Rattle.kinds.specs.Penalty.{Penalty-meaning, Penalty-laws, is-weight, is-residual, cost-answer}
 use Rattle.kinds.proofs.Bits.{back64}
 use Rattle.kinds.proofs.Ring.{linear, mul-most, size-add-most}
 use Rattle.objective.specs.Checks.{is-stiffness}
-use Rattle.objective.specs.Objective.{misfit-cost, bend-cost, crudes}
+use Rattle.objective.specs.Objective.{misfit-cost, crudes}
 use Rattle.objective.proofs.Noted.{blank}
 use Rattle.objective.proofs.Slopes.{weight-of}
 

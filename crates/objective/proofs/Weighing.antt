@@ -1,30 +1,28 @@
 -- From checks that pass to what the weighing calls promise.
 --     Offered           what a table that passes its checks is
-use mathlib.Core.Path.{_≡_, refl, ap, sym, subst, _∙_}
-use mathlib.Core.Bool.{Bool, true, false}
+use mathlib.Core.Path.{_≡_, refl, ap, sym, _∙_}
+use mathlib.Core.Bool.{true}
 use mathlib.Core.List.{List, [], _∷_}
-use Prim.Native.Nat.{ℕ, zero, suc, _+_, _-_, _*_, _≤_, _<_, min, max}
+use Prim.Native.Nat.{ℕ, _+_, _-_, _≤_, _<_}
 use native.Mathlib.Omega.{arith}
 use borrow.Author.Differences.{ints}
-use lib.IntN.{ℤ, pos, natAbs}
-use lib.ListN.{length, take, drop, getD}
+use lib.IntN.{ℤ, natAbs}
+use lib.ListN.{length, take}
 use Rattle.std.specs.declared.option.Option.{Option}
 use Rattle.std.specs.declared.option.Option.the-variants.{Some, None}
-use Rattle.std.specs.declared.result.Result.{Result}
 use Rattle.std.specs.declared.result.Result.the-variants.{Ok, Err}
 use Rattle.kinds.specs.declared.reading.Reading.{Reading}
 use Rattle.kinds.specs.declared.refusal.Cause.{Cause}
-use Rattle.kinds.specs.declared.refusal.Cause.the-variants.{Value, Multiplier, Column}
+use Rattle.kinds.specs.declared.refusal.Cause.the-variants.{Value}
 use Rattle.kinds.specs.declared.refusal.Refusal.{Refusal}
-use Rattle.kinds.specs.Checks.{located, or-else, first-of, first-off, first-off-from, answer}
+use Rattle.kinds.specs.Checks.{located, or-else, first-off, first-off-from}
 use Rattle.kinds.specs.Figures.{largest, over}
-use Rattle.kinds.specs.Minutes.{lawful}
-use Rattle.kinds.specs.Roughness.{Roughness-laws, told-reach, told-growth, map-no, filled, Fills}
-use Rattle.kinds.proofs.Passing.{pass, stop, says-no, says-so, mapped-none}
+use Rattle.kinds.specs.Roughness.{Roughness-laws, told-reach, filled}
+use Rattle.kinds.proofs.Passing.{pass, says-no, says-so}
 use Rattle.kinds.proofs.Places.{take-over}
 use Rattle.kinds.proofs.Ring.{mul-most}
 use Rattle.objective.specs.Checks.{is-value, is-stiffness, stiffness-no, readings-no, table-no, weigh-table-no}
-use Rattle.objective.specs.Objective.{Kinds-meaning, Kinds-laws, minutes, misfit-cost, bend-cost, rows-of, cost-of}
+use Rattle.objective.specs.Objective.{Kinds-meaning, minutes, rows-of, cost-of}
 use Rattle.objective.specs.Promises.{Weighs-table}
 use Rattle.objective.proofs.Duality.{length-minutes}
 use Rattle.objective.proofs.Noted.{few, lawful-noted}

@@ -1,15 +1,18 @@
--- The checks of settings, readings, tables and multipliers, in the order in which a sheet meets them.
+-- The checks of settings, readings, tables and multipliers, in their order: settings, then readings one after the other,
+-- then what concerns the table or the multipliers.
 --     in-range          whether a figure lies between two bounds
+--     is-stiffness, is-allowance, is-value, has-figures     the ranges of settings, of values, and of a reading's figures
 --     settings-no       stiffness 1 to 1,000 and allowance 0 to 10^12
 --     reading-no        a reading that comes after `count` others, the last of them at `last`; `place` is named in the refusal
---     readings-no       readings one after the other, each refused at its own place
+--     readings-no       readings one after the other, each refused at its own place; `readings-no-from` begins at a place
 --     kinds-no          growth at most 2,000, steepness at most 100
 --     table-no          a table for n readings, and a place of `room` figures for its rows
 --     multipliers-no    multipliers for n readings, and a place of `room` figures for their columns; all but the columns
---     columns-no        the columns
+--     columns-no        the columns; `first-column-off` is the first that is not allowed
+--     stiffness-no      a stiffness alone
 --     before-columns-no all checks of multipliers on readings and a stiffness, but for the columns
 --     weigh-table-no, weigh-multipliers-no      all checks of a table, of multipliers, on readings and a stiffness
-use mathlib.Core.Bool.{Bool, true, false, cond, _&&_}
+use mathlib.Core.Bool.{Bool, cond, _&&_}
 use mathlib.Core.List.{List, [], _∷_}
 use Prim.Native.Nat.{ℕ, _+_, _-_}
 use lib.Dec.{leb, ltb, eqb}

@@ -1,5 +1,6 @@
 -- Cost, floor and gap, for any three kinds and for tables of whole numbers of any size.
---     Kinds-meaning     a roughness, the penalty of the misfit and the penalty of the bends
+--     Kinds-meaning     a roughness, the penalty of the misfit and the penalty of the bends; `three` puts them together
+--     Kinds-laws        that the three keep their laws
 --     minutes, crudes   the minutes and the crude values of readings
 --     misfit-cost       what the residuals cost: table value minus crude value, at the reading's weight
 --     bend-cost         what rows cost at a stiffness
@@ -8,6 +9,7 @@
 --     floor-of          the floor of multipliers: the sum of column times crude value
 --     Lawful-multipliers      each multiplier is an allowed slope of the bends at the stiffness, and each column, negated, an
 --                       allowed slope of the misfit at its reading's weight
+--     Bends-allow, Misfits-allow      the two parts of that, of multipliers and of columns
 --     gap-of            D times the cost, less the floor
 --     within            whether the gap is at most D times the allowance
 -- A lawful weight, stiffness or denominator is no negative number, so `natAbs` takes nothing away from it.

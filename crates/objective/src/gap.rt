@@ -1,11 +1,9 @@
 // The gap between the cost of a table and the floor of multipliers.
 ghost use mathlib.Core.Path.{_≡_};
 ghost use Prim.Native.Nat.{_*_, _≤_, _^_};
-ghost use lib.IntN.{pos, natAbs};
+ghost use lib.IntN.{natAbs};
 ghost use Rattle.kinds.specs.Checks.{answer};
-ghost use Rattle.kinds.specs.Penalty.{is-denominator};
 ghost use Rattle.objective.specs.Gaps.{gap-no, gap-told};
-ghost use mathlib.Core.Bool.{true};
 use kinds::refusal::Cause;
 use kinds::refusal::Refusal;
 

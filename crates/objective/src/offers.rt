@@ -2,12 +2,12 @@
 ghost use mathlib.Core.Path.{_≡_};
 ghost use mathlib.Core.Bool.{true};
 ghost use Prim.Native.Nat.{_≤_};
-ghost use lib.IntN.{natAbs, negℤ};
+ghost use lib.IntN.{natAbs};
 ghost use lib.ListN.{length};
 ghost use Rattle.kinds.specs.Checks.{answer, located, first-off};
 ghost use Rattle.kinds.specs.Figures.{largest};
 ghost use Rattle.kinds.specs.Penalty.{is-weight, is-denominator};
-ghost use Rattle.objective.specs.Checks.{is-stiffness, is-value, kinds-no, table-no, multipliers-no, columns-no, readings-no, first-column-off};
+ghost use Rattle.objective.specs.Checks.{is-stiffness, is-value, kinds-no, table-no, multipliers-no, columns-no, readings-no};
 ghost use Rattle.objective.specs.Objective.{three};
 ghost use Rattle.std.specs.declared.option.Option.the-variants.{None};
 use crate::kinds::Kinds;

@@ -1,4 +1,7 @@
 // The kinds that a line of text names.
+ghost use mathlib.Core.Path.{_≡_};
+ghost use Rattle.known.specs.Known.{made-meaning};
+ghost use Rattle.weigh.specs.Named.{named-penalty};
 use kinds::refusal::Refusal;
 use known::penalty::KnownPenalty;
 use known::roughness::KnownRoughness;
@@ -9,7 +12,9 @@ use words::spellings::RoughnessWord;
 // The kinds of a firing that the programs know.
 pub type KnownKinds = Kinds<KnownRoughness, KnownPenalty, KnownPenalty>;
 
-fn penalty_of(word: PenaltyWord) -> Result<KnownPenalty, Refusal> {
+fn penalty_of(word: PenaltyWord) -> Result<KnownPenalty, Refusal>
+    ensures { λ r. ⌜ made-meaning r ≡ named-penalty word ⌝ }
+{
     match word {
         PenaltyWord::Absolute => Ok(KnownPenalty::absolute()),
         PenaltyWord::Lopsided { rise, fall } => KnownPenalty::lopsided(rise, fall),
@@ -18,7 +23,7 @@ fn penalty_of(word: PenaltyWord) -> Result<KnownPenalty, Refusal> {
 
 // The kinds that three words name: none where the roughness is raised more often than is known, and a refusal where a
 // penalty is out of range.
-pub fn kinds_of(
+pub(crate) fn kinds_of(
     roughness: RoughnessWord,
     misfit: PenaltyWord,
     bend: PenaltyWord,

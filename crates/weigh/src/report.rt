@@ -5,7 +5,12 @@ use objective::gap::Gap;
 use std::io;
 
 // The line that answers a call. `place` holds the rows or columns that were weighed.
-pub fn answer(rt: &LibcRuntime, number: u64, answer: Answer, place: &[i64]) -> io::Result<()> {
+pub(crate) fn answer(
+    rt: &LibcRuntime,
+    number: u64,
+    answer: Answer,
+    place: &[i64],
+) -> io::Result<()> {
     match answer {
         Answer::Done => println!(rt, "ok"),
         Answer::Table { cost, rows } => {
@@ -35,7 +40,7 @@ fn figures(rt: &LibcRuntime, word: &str, place: &[i64], count: usize) -> io::Res
 }
 
 // The gap, once a table and multipliers are there, over their denominator.
-pub fn gap(rt: &LibcRuntime, known: Option<(Gap, i64)>) -> io::Result<()> {
+pub(crate) fn gap(rt: &LibcRuntime, known: Option<(Gap, i64)>) -> io::Result<()> {
     let Some((gap, denominator)) = known else {
         return Ok(());
     };
@@ -54,7 +59,7 @@ pub fn gap(rt: &LibcRuntime, known: Option<(Gap, i64)>) -> io::Result<()> {
     }
 }
 
-pub fn tally(rt: &LibcRuntime, tally: Tally) -> io::Result<()> {
+pub(crate) fn tally(rt: &LibcRuntime, tally: Tally) -> io::Result<()> {
     let calls = tally.calls;
     let refused = tally.refused;
     let unknown = tally.unknown;

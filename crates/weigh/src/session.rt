@@ -1,4 +1,6 @@
 // The lines of a text, carried out one after the other on the firing at hand.
+ghost use mathlib.Core.Path.{_≡_};
+ghost use Rattle.weigh.specs.Counts.{is-weighed};
 use crate::firing::Firing;
 use crate::named::kinds_of;
 use kinds::reading::Reading;
@@ -26,7 +28,9 @@ pub enum Answer {
 
 impl Answer {
     // Whether a table or multipliers were weighed.
-    pub fn weighed(self) -> bool {
+    pub(crate) fn weighed(self) -> bool
+        ensures { λ r. ⌜ r ≡ is-weighed self ⌝ }
+    {
         matches!(self, Answer::Table { .. } | Answer::Multipliers { .. })
     }
 }
@@ -38,12 +42,12 @@ pub struct Session {
 }
 
 impl Session {
-    pub fn new() -> Session {
+    pub(crate) fn new() -> Session {
         Session { firing: None }
     }
 
     // Carries one line out; a blank one has no answer.
-    pub fn answer(&mut self, line: &[u8], place: &mut [i64]) -> Option<Answer> {
+    pub(crate) fn answer(&mut self, line: &[u8], place: &mut [i64]) -> Option<Answer> {
         let mut figures = [0; MOST];
         let said = read_line(line, &mut figures);
         if let Line::Blank = said {
@@ -82,7 +86,7 @@ impl Session {
     }
 
     // The gap of what was weighed last, with its denominator, once both are there.
-    pub fn gap(&self) -> Option<(Gap, i64)> {
+    pub(crate) fn gap(&self) -> Option<(Gap, i64)> {
         match &self.firing {
             None => None,
             Some(firing) => firing.gap(),

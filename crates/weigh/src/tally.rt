@@ -1,5 +1,6 @@
 // What a run has done.
 ghost use mathlib.Core.Path.{_≡_};
+ghost use Rattle.weigh.specs.Counts.{counted};
 use crate::session::Answer;
 
 #[derive(Clone, Copy)]
@@ -13,7 +14,7 @@ pub struct Tally {
 }
 
 impl Tally {
-    pub fn new() -> Tally
+    pub(crate) fn new() -> Tally
         ensures { λ r. ⌜ (r .calls ≡ 0) × (r .refused ≡ 0) × (r .unknown ≡ 0) ⌝ }
     {
         Tally {
@@ -24,7 +25,9 @@ impl Tally {
     }
 
     // One line more, by its answer.
-    pub fn count(&mut self, answer: Answer) {
+    pub(crate) fn count(&mut self, answer: Answer)
+        ensures { λ _. ⌜ now (self .exit) ≡ counted (now (self .entry)) answer ⌝ }
+    {
         if let Answer::NotACall = answer {
             self.unknown = self.unknown.saturating_add(1);
             return;

@@ -1,11 +1,9 @@
-use mathlib.Core.Path.{_≡_, ap, sym, _∙_}
+use mathlib.Core.Path.{_≡_}
 use mathlib.Core.Bool.{true}
-use Prim.Native.Nat.{ℕ, _+_, _*_, _≤_}
 use native.Mathlib.Omega.{arith}
-use borrow.Author.Differences.{ints}
 use borrow.Author.Needs.{needs}
 use lib.IntN.{ℤ, pos, natAbs}
-use lib.ListN.{drop, getD}
+use lib.ListN.{getD}
 use mir.Syntax.{w64}
 use mir.Val.{toZ, ofZ}
 use Rattle.std.proofs.shelf.Lists.{at-drop-more, at-drop-all}

@@ -1,4 +1,3 @@
-use mathlib.Core.Path.{_≡_}
 use Rattle.std.proofs.shelf.Signed.{toZ-ofZ}
 use Rattle.objective.proofs.Totals.{cost-told, cost-told-always, cost-bound}
 use Rattle.objective.proofs.sums.cost_at.Needs as need

@@ -1,18 +1,16 @@
-use mathlib.Core.Path.{_≡_, ap, sym, _∙_}
+use mathlib.Core.Path.{_≡_, ap, _∙_}
 use mathlib.Core.Bool.{true}
-use Prim.Native.Nat.{ℕ, _+_, _*_, _≤_}
 use native.Mathlib.Omega.{arith}
 use borrow.Author.Needs.{needs}
-use lib.IntN.{ℤ, pos, _-ℤ_, natAbs}
-use lib.ListN.{length, drop, getD}
+use lib.IntN.{ℤ, pos, natAbs}
+use lib.ListN.{getD}
 use mir.Syntax.{w64}
-use mir.Val.{SFits, toZ, ofZ}
+use mir.Val.{SFits}
 use Rattle.std.specs.declared.option.Option.the-variants.{None}
 use Rattle.std.proofs.shelf.Signed.{toZ-ofZ}
 use Rattle.kinds.specs.Penalty.{is-weight, is-residual}
-use Rattle.kinds.proofs.Bits.{from-bits, to-bits}
+use Rattle.kinds.proofs.Bits.{to-bits}
 use Rattle.objective.specs.Checks.{is-value}
-use Rattle.objective.specs.Objective.{misfit-cost}
 use Rattle.objective.proofs.Noted.{blank, figures-at, weighs, crude-value, few}
 use Rattle.objective.proofs.Searches.{off-none}
 use Rattle.objective.proofs.Totals.{misfit-more, misfit-all}
