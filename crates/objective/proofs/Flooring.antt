@@ -1,10 +1,11 @@
 -- From the checks of multipliers to their floor and what it says.
 --     Floorable         what multipliers that pass all checks but that of the columns are
-use mathlib.Core.Path.{_≡_, ap, sym, _∙_}
-use mathlib.Core.Bool.{true}
+use mathlib.Core.Path.{_≡_, refl, ap, sym, _∙_}
+use mathlib.Core.Bool.{true, _&&_}
 use mathlib.Core.List.{List, [], _∷_}
 use Prim.Native.Nat.{ℕ, _+_, _-_, _≤_, _<_}
 use native.Mathlib.Omega.{arith}
+use lib.Dec.{leb, ltb, eqb}
 use lib.IntN.{ℤ, natAbs}
 use lib.ListN.{length, take}
 use Rattle.std.specs.declared.option.Option.{Option}
@@ -12,18 +13,18 @@ use Rattle.std.specs.declared.option.Option.the-variants.{Some, None}
 use Rattle.std.specs.declared.result.Result.{Result}
 use Rattle.std.specs.declared.result.Result.the-variants.{Err}
 use Rattle.kinds.specs.declared.reading.Reading.{Reading}
-use Rattle.kinds.specs.declared.refusal.Cause.the-variants.{Multiplier, Column}
+use Rattle.kinds.specs.declared.refusal.Cause.the-variants.{Length, Denominator as Bad-denominator, Multiplier, Column, Short}
 use Rattle.kinds.specs.declared.refusal.Refusal.{Refusal}
-use Rattle.kinds.specs.Checks.{or-else, first-off, first-off-from, answer}
+use Rattle.kinds.specs.Checks.{at, unless, located, or-else, first-off, first-off-from, answer}
 use Rattle.kinds.specs.Figures.{dot, largest, over}
 use Rattle.kinds.specs.Penalty.{Penalty-meaning, Penalty-laws, Weight, Denominator, is-denominator}
 use Rattle.kinds.specs.Roughness.{Roughness-laws, told-reach, filled}
 use Rattle.kinds.proofs.Passing.{says-no}
 use Rattle.kinds.proofs.Places.{take-over}
 use Rattle.kinds.proofs.Ring.{mul-most}
-use Rattle.objective.specs.Checks.{is-stiffness, has-figures, stiffness-no, readings-no, readings-no-from, multipliers-no, first-column-off, columns-no, before-columns-no, weigh-multipliers-no}
+use Rattle.objective.specs.Checks.{is-stiffness, has-figures, stiffness-no, readings-no, kinds-no, readings-no-from, multipliers-no, first-column-off, columns-no, before-columns-no, weigh-multipliers-no}
 use Rattle.objective.specs.Objective.{Kinds-meaning, Kinds-laws, Lawful-multipliers, Bends-allow, Misfits-allow, minutes, crudes, columns-of, floor-of}
-use Rattle.objective.specs.Promises.{Weighs-multipliers}
+use Rattle.objective.specs.Promises.{No-table-beats, Given, Weighs-multipliers}
 use Rattle.objective.proofs.Duality.{Weights, length-minutes, floor-holds, near-best}
 use Rattle.objective.proofs.Noted.{few, lawful-noted, weight-most}
 use Rattle.objective.proofs.Slopes.{allowed-most, weight-of, denominator-of}
@@ -107,32 +108,60 @@ weights i last (x ∷ xs) e =
     let fine : has-figures x ≡ true = grind arith in
     (omega (arith, weight-most x fine), weights (i + 1) (Some (x .minute)) xs (grind arith))
 
-pub lawful-multipliers : (k : Kinds-meaning) (h : ℤ) (xs : List Reading) (d : ℤ) (ms : List ℤ) (room : ℕ) → weigh-multipliers-no k h xs d ms room ≡ None → Lawful-multipliers k (natAbs h) (natAbs d) xs ms
+pub lawful-multipliers : (k : Kinds-meaning) (h : ℤ) (xs : List Reading) (d : ℤ) (ms : List ℤ) (room : ℕ) → weigh-multipliers-no k h xs d ms room ≡ None → Given h xs d × Lawful-multipliers k (natAbs h) (natAbs d) xs ms
 lawful-multipliers k h xs d ms room e =
     let a = both-none (before-columns-no k h xs d ms room) _ e in
     let f = floorable k h xs d ms room (a .0) in
     let most = few 0 None xs (f .noted) (omega arith) in
-    let reaches = f .reaches in
-    record {
-      count = omega (arith, f .long);
-      multipliers = bends-allow (k .bend) (natAbs h) (natAbs d) 0 ms (f .slopes);
-      columns = misfits-allow (k .misfit) (natAbs d) 0 (columns-of k xs ms) xs (nothing-located Column _ (a .1));
-    }
+    let reaches = f .reaches in (
+      record { stiff = f .stiff; noted = f .noted; divides = f .divides },
+      record {
+        count = omega (arith, f .long);
+        multipliers = bends-allow (k .bend) (natAbs h) (natAbs d) 0 ms (f .slopes);
+        columns = misfits-allow (k .misfit) (natAbs d) 0 (columns-of k xs ms) xs (nothing-located Column _ (a .1));
+      },
+    )
+
+-- lawful multipliers pass
+and-none : (a b : Option Refusal) → a ≡ None → b ≡ None → or-else a b ≡ None
+and-none a b e f = ap (λ (c : Option Refusal). or-else c b) e ∙ f
+
+none-off : (p : Penalty-meaning) (h d i : ℕ) (ms : List ℤ) → Bends-allow p h d ms → first-off-from (p .allows h d) i ms ≡ None
+none-off p h d i [] a = refl
+none-off p h d i (m ∷ ms) a = let more = none-off p h d (i + 1) ms (a .1) in grind (arith, a .0)
+
+no-column-off : (p : Penalty-meaning) (d i : ℕ) (cs : List ℤ) (xs : List Reading) → Misfits-allow p d cs xs → first-column-off p d i cs xs ≡ None
+no-column-off p d i [] xs a = refl
+no-column-off p d i (c ∷ cs) [] a = refl
+no-column-off p d i (c ∷ cs) (x ∷ xs) a = let more = no-column-off p d (i + 1) cs xs (a .1) in grind (arith, a .0)
+
+pub accepted : (k : Kinds-meaning) (h : ℤ) (xs : List Reading) (d : ℤ) (ms : List ℤ) (room : ℕ) → Given h xs d → Lawful-multipliers k (natAbs h) (natAbs d) xs ms → kinds-no k ≡ None → told-reach (k .roughness) < length xs → length xs ≤ room → weigh-multipliers-no k h xs d ms room ≡ None
+accepted k h xs d ms room given m kinds reaches fits =
+    let most = few 0 None xs (given .noted) (omega arith) in
+    let count = m .count in
+    let stiff : stiffness-no h ≡ None = grind (arith, given .stiff) in
+    let short : unless (ltb (told-reach (k .roughness)) (length xs)) (at Short 0) ≡ None = grind arith in
+    let long : unless (eqb (length ms) (length xs - told-reach (k .roughness)) && leb (length xs) room) (at Length 0) ≡ None = grind arith in
+    let divides : unless (is-denominator d) (at Bad-denominator 0) ≡ None = grind (arith, given .divides) in
+    let slopes = ap (located Multiplier) (none-off (k .bend) (natAbs h) (natAbs d) 0 ms (m .multipliers)) in
+    let own : multipliers-no k (natAbs h) (length xs) d ms room ≡ None = and-none _ _ kinds (and-none _ _ short (and-none _ _ long (and-none _ _ divides (and-none _ _ slopes refl)))) in
+    let before : before-columns-no k h xs d ms room ≡ None = and-none _ _ stiff (and-none _ _ (given .noted) (and-none _ _ own refl)) in
+    ap (λ (c : Option Refusal). or-else c (columns-no (k .misfit) (natAbs d) (columns-of k xs ms) xs)) before
+    ∙ ap (located Column) (no-column-off (k .misfit) (natAbs d) 0 (columns-of k xs ms) xs (m .columns))
 
 pub floored : (k : Kinds-meaning) → Kinds-laws k → (h : ℤ) (xs : List Reading) (d : ℤ) (ms before after : List ℤ) (r : Result ℤ Refusal) → r ≡ answer (weigh-multipliers-no k h xs d ms (length before)) (floor-of k xs ms) → after ≡ filled (weigh-multipliers-no k h xs d ms (length before)) (columns-of k xs ms) before → Weighs-multipliers k h xs d ms before after r
-floored k law h xs d ms before after r a p =
-    let below : weigh-multipliers-no k h xs d ms (length before) ≡ None → _ = λ e.
-    (let f = floorable k h xs d ms (length before) (both-none (before-columns-no k h xs d ms (length before)) _ e .0) in
-    floor-holds k law (natAbs h) (natAbs d) (weight-of h (stiffness-weighs h (f .stiff))) (denominator-of d (f .divides)) xs ms (weights 0 None xs (f .noted)) (lawful-multipliers k h xs d ms (length before) e)) in
-    record {
-      answered = a;
-      place = p;
-      lawful = lawful-multipliers k h xs d ms (length before);
-      floor-holds = below;
-      near-best = λ e.
-          (let f = floorable k h xs d ms (length before) (both-none (before-columns-no k h xs d ms (length before)) _ e .0) in
-          near-best k (natAbs h) (natAbs d) (denominator-of d (f .divides) .0) xs (floor-of k xs ms) (below e));
-    }
+floored k law h xs d ms before after r a p = record {
+  answered = a;
+  place = p;
+  lawful = lawful-multipliers k h xs d ms (length before);
+  accepted = accepted k h xs d ms (length before);
+  floor-holds = below;
+  near-best = λ given m. near-best k (natAbs h) (natAbs d) (denominator-of d (given .divides) .0) xs (floor-of k xs ms) (below given m);
+}
+  where
+    below : Given h xs d → Lawful-multipliers k (natAbs h) (natAbs d) xs ms → No-table-beats k (natAbs h) xs (natAbs d) (floor-of k xs ms)
+    below given m =
+        floor-holds k law (natAbs h) (natAbs d) (weight-of h (stiffness-weighs h (given .stiff))) (denominator-of d (given .divides)) xs ms (weights 0 None xs (given .noted)) m
 
 -- the last of three checks answers
 pub last-of-three : (a b m : Option Refusal) (r : Result (Unit {0}) Refusal) → a ≡ None → b ≡ None → r ≡ answer m tt → r ≡ answer (or-else a (or-else b (or-else m None))) tt

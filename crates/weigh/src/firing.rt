@@ -1,6 +1,7 @@
 // A firing that is being read: its kinds, settings and readings, and what was weighed last under them.
 ghost use Prim.Native.Nat.{_+_, _-_, _≤_};
 ghost use mathlib.Core.Path.{_≡_};
+ghost use lib.IntN.{pos};
 ghost use lib.ListN.{length, set, take};
 ghost use Rattle.kinds.specs.Checks.{answer};
 ghost use Rattle.kinds.specs.Roughness.{told-reach};
@@ -46,7 +47,9 @@ pub struct Firing {
 }
 
 impl Firing {
-    pub(crate) fn new(kinds: KnownKinds) -> Firing {
+    pub(crate) fn new(kinds: KnownKinds) -> Firing
+        ensures { λ r. ⌜ (r .kinds ≡ kinds) × (r .stiffness ≡ pos 1) × (r .allowance ≡ pos 0) × (r .count ≡ 0) × (r .last ≡ None) × (r .cost ≡ None) × (r .floor ≡ None) ⌝ }
+    {
         let blank = Reading {
             minute: 0,
             crude: 0,
@@ -143,13 +146,15 @@ impl Firing {
     }
 
     pub(crate) fn keep_cost(&mut self, cost: u64)
-        ensures { λ _. ⌜ (now (self .exit) .cost ≡ Some cost) × (now (self .exit) .floor ≡ now (self .entry) .floor) ⌝ }
+        ensures kept { λ _. ⌜ (now (self .exit) .cost ≡ Some cost) × (now (self .exit) .floor ≡ now (self .entry) .floor) ⌝ }
+        ensures same { λ _. ⌜ (now (self .exit) .kinds ≡ now (self .entry) .kinds) × (now (self .exit) .stiffness ≡ now (self .entry) .stiffness) × (now (self .exit) .allowance ≡ now (self .entry) .allowance) × (now (self .exit) .readings ≡ now (self .entry) .readings) × (now (self .exit) .count ≡ now (self .entry) .count) × (now (self .exit) .last ≡ now (self .entry) .last) ⌝ }
     {
         self.cost = Some(cost);
     }
 
     pub(crate) fn keep_floor(&mut self, value: i64, denominator: i64)
-        ensures { λ _. ⌜ (now (self .exit) .floor ≡ Some (record { value = value; denominator = denominator })) × (now (self .exit) .cost ≡ now (self .entry) .cost) ⌝ }
+        ensures kept { λ _. ⌜ (now (self .exit) .floor ≡ Some (record { value = value; denominator = denominator })) × (now (self .exit) .cost ≡ now (self .entry) .cost) ⌝ }
+        ensures same { λ _. ⌜ (now (self .exit) .kinds ≡ now (self .entry) .kinds) × (now (self .exit) .stiffness ≡ now (self .entry) .stiffness) × (now (self .exit) .allowance ≡ now (self .entry) .allowance) × (now (self .exit) .readings ≡ now (self .entry) .readings) × (now (self .exit) .count ≡ now (self .entry) .count) × (now (self .exit) .last ≡ now (self .entry) .last) ⌝ }
     {
         self.floor = Some(Floor { value, denominator });
     }
