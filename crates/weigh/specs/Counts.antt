@@ -1,5 +1,6 @@
 -- How answers are counted.
 --     one-more        a count and one, up to the largest that 64 bits hold
+--     call-more       a tally and one call more
 --     counted         a tally and one answer more
 --     is-weighed      whether an answer is that of a table or of multipliers
 use mathlib.Core.Bool.{Bool, true, false}

@@ -1,3 +1,4 @@
+pub mod Answered
 pub mod Counts
 pub mod Named
 pub mod Steps
