@@ -1,4 +1,6 @@
 // The archive file: what the file of some figures is, and the stages through which it is written.
+#![tactic(auto)]
+
 pub mod cases;
 mod checks;
 pub mod figures;

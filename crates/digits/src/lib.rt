@@ -1,4 +1,6 @@
 // Fields of a fixed width in the hexadecimal digits 0-9 and A-F.
+#![tactic(auto)]
+
 ghost use Rattle.std.specs.Prelude.{◌≡◌, ◌<◌, ◌≤◌, true, length};
 ghost use Rattle.digits.specs.Fields.{digit, is_digit, Digits, field, Number, Reads};
 

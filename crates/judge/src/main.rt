@@ -1,4 +1,6 @@
 // Judges a file on standard input under the kinds that its head names, and prints one line with the answer.
+#![tactic(auto)]
+
 use catalogue::answer::judge_line;
 use std::io::{Read, Write};
 

@@ -1,4 +1,6 @@
 // The kinds that the programs know, in one list.
+#![tactic(auto)]
+
 pub mod cases;
 pub mod penalty;
 pub mod roughness;

@@ -1,4 +1,6 @@
 // Cost, floor and gap over any kinds, and the calls that weigh tables and multipliers on lent readings.
+#![tactic(auto)]
+
 pub mod checks;
 pub mod gap;
 pub mod kinds;

@@ -1,4 +1,6 @@
 // Reads a file in two layers, its lines and its frames.
+#![tactic(auto)]
+
 pub mod contents;
 pub mod fault;
 mod frames;

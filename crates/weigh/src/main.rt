@@ -1,4 +1,6 @@
 // Reads a firing as text on standard input, weighs its tables and multipliers, and prints what it found.
+#![tactic(auto)]
+
 mod firing;
 mod named;
 mod report;

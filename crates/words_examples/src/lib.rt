@@ -1,4 +1,6 @@
 // Examples of lines and figures, as tests: each line of the grammar once as it should be, and the ways in which it fails.
+#![tactic(auto)]
+
 #[cfg(test)]
 mod tests {
     use words::figures::figure;

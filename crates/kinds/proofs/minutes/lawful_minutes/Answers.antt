@@ -4,8 +4,8 @@ use Rattle.std.proofs.lemmas.Int.{to_z-of_z}
 use Rattle.kinds.specs.Minutes.{lawful_from}
 use Rattle.kinds.proofs.minutes.lawful_minutes.Goals as goal
 
-pub returns-then-not-may-come : goal.returns-then-not-may-come
-returns-then-not-may-come c =
+pub returns-then-not-may_come : goal.returns-then-not-may_come
+returns-then-not-may_come c =
     let step = at_drop_more (lawful_from c.loop-minute.last) c.args.minutes.now c.loop-minute.minute-index (pos 0) c.loop-minute-test.true in
     let fits : SFits w64 (get_or c.args.minutes.now c.loop-minute.minute-index (pos 0)) = search rules in
     let told = simp to_z-of_z at c.may_come.ensures in
