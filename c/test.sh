@@ -3,12 +3,12 @@
 # examples/files under the marks of c/expected.txt, and for files of more than 70,000 lines.
 set -euo pipefail
 cd "$(dirname "$0")/.."
-kit=$(dirname "$(dirname "$(rt doc)")")
-made=target/c
+made=$PWD/target/c
 mkdir -p "$made"
 
-rt staticlib catalogue > "$made/staticlib.out" 2>&1 || { cat "$made/staticlib.out"; exit 1; }
-gcc -std=c11 -Wall -Wextra -Werror -O2 -Ic -o "$made/try_judge" c/try_judge.c target/staticlib/libcatalogue.a "$kit/lib/librattle_c.a"
+(cd crates/catalogue_c && rt lib) > "$made/lib.out" 2>&1 || { cat "$made/lib.out"; exit 1; }
+cp crates/catalogue_c/out/libcatalogue_c.a "$made/libcatalogue.a"
+gcc -std=c11 -Wall -Wextra -Werror -O2 -Ic -o "$made/try_judge" c/try_judge.c "$made/libcatalogue.a"
 
 # one run for each three marks of the table
 grep -v '^#' c/expected.txt | cut -d ' ' -f 1-3 | sort -u | while read -r roughness misfit bend; do

@@ -3,7 +3,7 @@
 # what it prints. The status has to be 0 each time, and 1 where nothing can be read or printed.
 set -euo pipefail
 cd "$(dirname "$0")/.."
-judge=target/bin/judge
+judge=crates/judge/out/judge
 files=examples/files
 count=0
 

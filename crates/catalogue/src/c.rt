@@ -1,4 +1,4 @@
-// The judge for callers in C.
+// The judge with its answer in one number, as callers in C get it.
 ghost use Rattle.std.specs.Prelude.{◌≡◌};
 ghost use Rattle.catalogue.specs.Told.{packed, Tells};
 
@@ -20,9 +20,8 @@ fn pack(answer: &Result<Contents, Fault>) -> u32
     }
 }
 
-// What `judge_marks` answers, in one number. `c/sablecobalt.h` declares it for C.
-#[unsafe(no_mangle)]
-pub extern "C" fn sablecobalt_judge(roughness: u32, misfit: u32, bend: u32, file: &[u8]) -> u32
+// What `judge_marks` answers, in one number.
+pub fn judge_packed(roughness: u32, misfit: u32, bend: u32, file: &[u8]) -> u32
     ensures { Tells roughness misfit bend file.now result }
 {
     pack(&judge_marks(roughness as u64, misfit as u64, bend as u64, file))
