@@ -1,5 +1,5 @@
 -- The number that digits write, summed up from the left.
-use Rattle.std.proofs.Common.{◌≡◌, ℕ, zero, suc, ◌+◌, ◌-◌, ◌*◌, ◌^◌, ◌<◌, ◌≤◌, Bool, true, false, cond, ◌&&◌, leb, List, [], ◌∷◌, length, get_or, drop, ℤ, pos, neg_ℤ, Some, None, Option, sym, refl, ◌∙◌, add_assoc, mul_assoc, add_mul, le-mul_of_pos_right, arith}
+use Rattle.std.proofs.Common.{◌≡◌, ℕ, zero, suc, ◌+◌, ◌-◌, ◌*◌, ◌^◌, ◌<◌, ◌≤◌, Bool, true, false, cond, ◌&&◌, leb, List, [], ◌∷◌, length, get_or, drop, ℤ, pos, neg_ℤ, Some, None, Option, sym, refl, ◌∙◌, add_assoc, mul_assoc, add-mul, le-mul_of_pos_right, arith}
 use native.Mathlib.Nat.{pow-succ', one-le-pow}
 use Rattle.std.proofs.lemmas.List.{drop_more, drop_all}
 use Rattle.std.proofs.lemmas.Bool.{and_right, lt-leb, le-leb, both_ways}
@@ -16,7 +16,7 @@ pub summed_none : (ds : List ℕ) → Summed ds 0 0
 summed_none ds = record { digits = refl; whole = omega arith }
 
 place : (m d n v : ℕ) → m * 10 ^ suc n + (d * 10 ^ n + v) ≡ (m * 10 + d) * 10 ^ n + v
-place m d n v = simp (pow-succ', add_mul, mul_assoc, add_assoc)
+place m d n v = simp (pow-succ', add-mul, mul_assoc, add_assoc)
 
 module _ (ds : List ℕ) (i m : ℕ) (s : Summed ds i m) where
   pub summed_more : i < length ds → is_digit (get_or ds i 0) ≡ true → Summed ds (i + 1) (m * 10 + (get_or ds i 0 - 48))

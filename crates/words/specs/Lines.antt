@@ -1,6 +1,6 @@
 -- The lines of a text.
 --     line_end        the mark that ends a line
---     NextLine       a line is taken off the front of a text: none is left, or it is what stands before the first line end,
+--     NextLine        a line is taken off the front of a text: none is left, or it is what stands before the first line end,
 --                     and what stands after it is left
 use Rattle.std.specs.Prelude.{◌≡◌, ℕ, ◌<◌, List, [], ◌∷◌, length, Some, None, Option}
 use Rattle.std.specs.Borrow.{Bor}

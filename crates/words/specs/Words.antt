@@ -8,7 +8,7 @@
 --     gaps            the marks between words: a space, a tab, a carriage return
 --     not_empty       whether a text has any bytes
 --     words_of        the words of a line: its pieces at gaps that are not empty
---     NextWord       a word is taken off the front of a text: none is left, or it is the first, and the others stay
+--     NextWord        a word is taken off the front of a text: none is left, or it is the first, and the others stay
 use Rattle.std.specs.Prelude.{◌≡◌, ℕ, Bool, true, false, cond, ◌||◌, List, [], ◌∷◌, Some, None, filter, Option, ◌==◌}
 use Rattle.std.specs.Borrow.{Bor}
 

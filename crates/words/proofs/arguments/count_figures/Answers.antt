@@ -6,15 +6,15 @@ use Rattle.words.proofs.arguments.count_figures.Goals as goal
 pub loop-word-init : goal.loop-word-init
 loop-word-init c = (counted_none _, omega (arith, words_few c.args.words.rest.now))
 
-pub returns-in-err-figure : goal.returns-in-err-figure
-returns-in-err-figure c =
-    c.from-residual.ensures ∙ counted_no_figure _ _ _ _ c.in-Some.ensures c.in-err-figure.ensures ∙ c.loop-word.invariant.0
+pub returns-in_err-figure : goal.returns-in_err-figure
+returns-in_err-figure c =
+    c.from_residual.ensures ∙ counted_no_figure _ _ _ _ c.in-Some.ensures c.in_err-figure.ensures ∙ c.loop-word.invariant.0
 
 pub loop-word-preserved : goal.loop-word-preserved
 loop-word-preserved c = (
-  counted_more _ _ _ _ c.in-Some.ensures _ c.in-ok-figure.ensures ∙ c.loop-word.invariant.0,
+  counted_more _ _ _ _ c.in-Some.ensures _ c.in_ok-figure.ensures ∙ c.loop-word.invariant.0,
   omega (arith, ap length c.in-Some.ensures, c.loop-word.invariant.1),
 )
 
 pub returns : goal.returns
-returns c = counted_all _ _ c.in-default.ensures.0 ∙ c.loop-word.invariant.0
+returns c = counted_all _ _ c.in_default.ensures.0 ∙ c.loop-word.invariant.0

@@ -4,12 +4,12 @@ use Rattle.words.specs.Arguments.{figures_of}
 use Rattle.words.proofs.Listing.{written_listed, place_kept}
 use Rattle.words.proofs.arguments.list_figures.Goals as goal
 
-pub returns-in-err-count : goal.returns-in-err-count
-returns-in-err-count c =
-    let none = c.in-err-count.ensures in
-    record { count = c.from-residual.ensures ∙ none; place = place_kept (figures_of (words_of c.args.words.rest.now)) _ none }
+pub returns-in_err-count : goal.returns-in_err-count
+returns-in_err-count c =
+    let none = c.in_err-count.ensures in
+    record { count = c.from_residual.ensures ∙ none; place = place_kept (figures_of (words_of c.args.words.rest.now)) _ none }
 
 pub returns : goal.returns
 returns c =
-    let counted = c.in-ok-count.ensures in
-    record { count = counted; place = c.write-figures.ensures ∙ written_listed (words_of c.args.words.rest.now) _ _ counted }
+    let counted = c.in_ok-count.ensures in
+    record { count = counted; place = c.write_figures.ensures ∙ written_listed (words_of c.args.words.rest.now) _ _ counted }

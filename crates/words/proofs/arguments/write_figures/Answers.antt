@@ -7,16 +7,16 @@ use Rattle.words.proofs.arguments.write_figures.Goals as goal
 pub loop-slot-init : goal.loop-slot-init
 loop-slot-init c = written_none _ _
 
-pub returns-in-default : goal.returns-in-default
-returns-in-default c =
+pub returns-in_default : goal.returns-in_default
+returns-in_default c =
     set-get_or c.loop-slot.place c.loop-slot.slot-index _
-    ∙ written_end _ _ _ _ _ c.loop-slot.invariant c.in-default.ensures.first (omega arith) c.loop-slot.auto.place
+    ∙ written_end _ _ _ _ _ c.loop-slot.invariant c.in_default.ensures.first (omega arith) c.loop-slot.auto.place
 
 pub loop-slot-preserved : goal.loop-slot-preserved
 loop-slot-preserved c =
     let f : SFits w64 c.in-Some.next = search rules in
     written_more _ _ _ _ _ c.loop-slot.invariant c.in-Some.next _ _ (omega arith) c.in-Some.ensures.first
-    c.next-figure.ensures.others (to_z-of_z w64 c.in-Some.next f)
+    c.next_figure.ensures.others (to_z-of_z w64 c.in-Some.next f)
 
 pub returns : goal.returns
 returns c = written_full _ _ _ _ _ c.loop-slot.invariant (omega arith) c.loop-slot.auto.place
