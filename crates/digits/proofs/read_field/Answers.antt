@@ -6,10 +6,10 @@ use Rattle.digits.specs.Fields.{is_digit, Digits}
 use Rattle.digits.proofs.read_field.Goals as goal
 
 pub loop-byte-preserved : goal.loop-byte-preserved
-loop-byte-preserved c = All-more (λ b. is_digit b ≡ true) c.args.bytes.now c.loop-byte.byte-index 0 (omega arith) c.loop-byte.invariant (sym c.is-digit.ensures ∙ c.if-not-is-digit.false)
+loop-byte-preserved c = All-more (λ b. is_digit b ≡ true) c.args.bytes.now c.loop-byte.byte-index 0 (omega arith) c.loop-byte.invariant (sym c.is_digit.ensures ∙ c.if-not-is_digit.false)
 
-pub returns-then-not-is-digit : goal.returns-then-not-is-digit
-returns-then-not-is-digit c = λ short all. both_ways _ c.if-not-is-digit.true (c.is-digit.ensures ∙ All-get_or (λ b. is_digit b ≡ true) c.args.bytes.now c.loop-byte.byte-index 0 (omega arith) all)
+pub returns-then-not-is_digit : goal.returns-then-not-is_digit
+returns-then-not-is_digit c = λ short all. both_ways _ c.if-not-is_digit.true (c.is_digit.ensures ∙ All-get_or (λ b. is_digit b ≡ true) c.args.bytes.now c.loop-byte.byte-index 0 (omega arith) all)
 
 pub returns : goal.returns
-returns c = c.digits-value.ensures (omega arith) (subst Digits (take_all c.loop-byte.byte-index c.args.bytes.now (omega arith)) c.loop-byte.invariant)
+returns c = c.digits_value.ensures (omega arith) (subst Digits (take_all c.loop-byte.byte-index c.args.bytes.now (omega arith)) c.loop-byte.invariant)
