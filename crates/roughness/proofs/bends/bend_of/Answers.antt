@@ -36,6 +36,6 @@ returns c =
     let near = simp to_z-of_z at c.times-near.ensures.value in
     let both = simp to_z-of_z at c.minus-both.ensures.value in
     let far = simp to_z-of_z at c.plus.ensures in
-    to_z-of_z w64 c.plus.result (record { sfits = c.plus.type-inv })
+    to_z-of_z w64 c.plus.result (record { sfits = c.plus.type_inv })
     ∙ far
     ∙ ap (λ (z : ℤ). z +ℤ c.args.a *ℤ c.args.x) (both ∙ ap (λ (z : ℤ). z -ℤ (c.args.a +ℤ c.args.b) *ℤ c.args.w) near)

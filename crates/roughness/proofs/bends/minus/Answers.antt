@@ -12,8 +12,8 @@ size_both c = size_add_most c.args.a c.args.b {m = 60} {n = 60} (omega arith) (o
 both : (c : Start) → Stored ◌+ℤ◌ c.args.a c.args.b
 both c = stored ◌+ℤ◌ c.args.a c.args.b c.ranges.a c.ranges.b (omega (arith, size_both c))
 
-pub overflow-add-a : goal.overflow-add-a
-overflow-add-a c = (both c).ranges
+pub overflow_add-a : goal.overflow_add-a
+overflow_add-a c = (both c).fits
 
 pub times-requires : goal.times-requires
 times-requires c =
@@ -26,8 +26,8 @@ less c =
     stored ◌-ℤ◌ c.args.sum c.times.result c.ranges.sum (fits64 c.times.result (omega arith))
     (omega (arith, size_sub_most c.args.sum c.times.result c.requires.0 c.times.ensures.small))
 
-pub overflow-sub-result : goal.overflow-sub-result
-overflow-sub-result c = (less c).ranges
+pub overflow_sub-result : goal.overflow_sub-result
+overflow_sub-result c = (less c).fits
 
 pub returns : goal.returns
 returns c =

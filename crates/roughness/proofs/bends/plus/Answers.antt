@@ -17,8 +17,8 @@ total c =
     stored ◌+ℤ◌ c.args.sum c.times.result c.ranges.sum (fits64 c.times.result (omega arith))
     (omega (arith, size_add_most c.args.sum c.times.result c.requires.0 c.times.ensures.small))
 
-pub overflow-add-result : goal.overflow-add-result
-overflow-add-result c = (total c).ranges
+pub overflow_add-result : goal.overflow_add-result
+overflow_add-result c = (total c).fits
 
 pub returns : goal.returns
 returns c =

@@ -7,8 +7,8 @@ use Rattle.roughness.proofs.bends.step_between.Goals.{Start}
 apart : (c : Start) → Stored ◌-ℤ◌ c.args.minute c.args.before
 apart c = stored ◌-ℤ◌ c.args.minute c.args.before c.ranges.minute c.ranges.before (omega (arith, size_step c.args.before c.args.minute c.requires))
 
-pub overflow-sub-result : goal.overflow-sub-result
-overflow-sub-result c = (apart c).ranges
+pub overflow_sub-result : goal.overflow_sub-result
+overflow_sub-result c = (apart c).fits
 
 pub returns : goal.returns
 returns c = record { value = (apart c).same; small = rw (apart c).same (size_step c.args.before c.args.minute c.requires) }

@@ -9,21 +9,21 @@ use Rattle.roughness.proofs.bends.write_bends.Goals as goal
 pub loop-k-init : goal.loop-k-init
 loop-k-init c = written_none _ _
 
-pub step-between-a-requires : goal.step-between-a-requires
-step-between-a-requires c = stored_follows c.args.minutes.now c.loop-k.k (c.loop-k.k + 1) c.requires.0 (omega arith) (omega arith) (search rules) (search rules)
+pub step_between-a-requires : goal.step_between-a-requires
+step_between-a-requires c = stored_follows c.args.minutes.now c.loop-k.k (c.loop-k.k + 1) c.requires.0 (omega arith) (omega arith) (search rules) (search rules)
 
-pub step-between-b-requires : goal.step-between-b-requires
-step-between-b-requires c = stored_follows c.args.minutes.now (c.loop-k.k + 1) (c.loop-k.k + 2) c.requires.0 (omega arith) (omega arith) (search rules) (search rules)
+pub step_between-b-requires : goal.step_between-b-requires
+step_between-b-requires c = stored_follows c.args.minutes.now (c.loop-k.k + 1) (c.loop-k.k + 2) c.requires.0 (omega arith) (omega arith) (search rules) (search rules)
 
-pub bend-of-requires : goal.bend-of-requires
-bend-of-requires c =
+pub bend_of-requires : goal.bend_of-requires
+bend_of-requires c =
     let vs = c.args.values.now in
     let k = c.loop-k.k in
     let h₀ = size_at vs k in
     let h₁ = size_at vs (k + 1) in
     let h₂ = size_at vs (k + 2) in
-    let fa = fits64 c.step-between-a.result (omega arith) in
-    let fb = fits64 c.step-between-b.result (omega arith) in
+    let fa = fits64 c.step_between-a.result (omega arith) in
+    let fb = fits64 c.step_between-b.result (omega arith) in
     let f₀ = fits64 (get_or vs k (pos 0)) (omega arith) in
     let f₁ = fits64 (get_or vs (k + 1) (pos 0)) (omega arith) in
     let f₂ = fits64 (get_or vs (k + 2) (pos 0)) (omega arith) in
@@ -40,14 +40,14 @@ loop-k-preserved c =
     let v₀ : SFits w64 (get_or vs k (pos 0)) = search rules in
     let v₁ : SFits w64 (get_or vs (k + 1) (pos 0)) = search rules in
     let v₂ : SFits w64 (get_or vs (k + 2) (pos 0)) = search rules in
-    let fa = fits64 c.step-between-a.result (omega arith) in
-    let fb = fits64 c.step-between-b.result (omega arith) in
-    let a = simp to_z-of_z at c.step-between-a.ensures.value in
-    let b = simp to_z-of_z at c.step-between-b.ensures.value in
-    let row = simp (a, b) at (simp to_z-of_z at c.bend-of.ensures) in
+    let fa = fits64 c.step_between-a.result (omega arith) in
+    let fb = fits64 c.step_between-b.result (omega arith) in
+    let a = simp to_z-of_z at c.step_between-a.ensures.value in
+    let b = simp to_z-of_z at c.step_between-b.ensures.value in
+    let row = simp (a, b) at (simp to_z-of_z at c.bend_of.ensures) in
     written_more k _ _ _ _ _ c.loop-k.rows c.loop-k.invariant (omega arith)
     (bends_more ts vs k _ (omega arith) (omega arith)
-    (to_z-of_z w64 c.bend-of.result (record { sfits = c.bend-of.type-inv }) ∙ row))
+    (to_z-of_z w64 c.bend_of.result (record { sfits = c.bend_of.type_inv }) ∙ row))
 
 pub returns : goal.returns
 returns c =

@@ -9,31 +9,31 @@ use Rattle.roughness.proofs.bends.write_bends_back.Goals as goal
 pub loop-k-init : goal.loop-k-init
 loop-k-init c = (written_none _ _, omega arith, omega arith)
 
-pub step-between-a-requires : goal.step-between-a-requires
-step-between-a-requires c = stored_follows c.args.minutes.now c.loop-k.k (c.loop-k.k + 1) c.requires.0 (omega arith) (omega arith) (search rules) (search rules)
+pub step_between-a-requires : goal.step_between-a-requires
+step_between-a-requires c = stored_follows c.args.minutes.now c.loop-k.k (c.loop-k.k + 1) c.requires.0 (omega arith) (omega arith) (search rules) (search rules)
 
-pub step-between-b-requires : goal.step-between-b-requires
-step-between-b-requires c = stored_follows c.args.minutes.now (c.loop-k.k + 1) (c.loop-k.k + 2) c.requires.0 (omega arith) (omega arith) (search rules) (search rules)
+pub step_between-b-requires : goal.step_between-b-requires
+step_between-b-requires c = stored_follows c.args.minutes.now (c.loop-k.k + 1) (c.loop-k.k + 2) c.requires.0 (omega arith) (omega arith) (search rules) (search rules)
 
 pub plus-requires : goal.plus-requires
 plus-requires c =
     let near = size_at c.args.multipliers.now c.loop-k.k in
-    let fb = fits64 c.step-between-b.result (omega arith) in
+    let fb = fits64 c.step_between-b.result (omega arith) in
     let fm = fits64 (get_or c.args.multipliers.now c.loop-k.k (pos 0)) (omega arith) in
     simp to_z-of_z (c.loop-k.invariant.1, (omega arith, omega arith))
 
 pub minus-here-requires : goal.minus-here-requires
 minus-here-requires c =
     let near = size_at c.args.multipliers.now c.loop-k.k in
-    let fa = fits64 c.step-between-a.result (omega arith) in
-    let fb = fits64 c.step-between-b.result (omega arith) in
+    let fa = fits64 c.step_between-a.result (omega arith) in
+    let fb = fits64 c.step_between-b.result (omega arith) in
     let fm = fits64 (get_or c.args.multipliers.now c.loop-k.k (pos 0)) (omega arith) in
     simp to_z-of_z (c.loop-k.invariant.2, (omega arith, (omega arith, omega arith)))
 
 pub times-next-requires : goal.times-next-requires
 times-next-requires c =
     let near = size_at c.args.multipliers.now c.loop-k.k in
-    let fa = fits64 c.step-between-a.result (omega arith) in
+    let fa = fits64 c.step_between-a.result (omega arith) in
     let fm = fits64 (get_or c.args.multipliers.now c.loop-k.k (pos 0)) (omega arith) in
     simp to_z-of_z (omega arith)
 
@@ -45,18 +45,18 @@ loop-k-preserved c =
     let t₁ : SFits w64 (get_or ts (k + 1) (pos 0)) = search rules in
     let t₂ : SFits w64 (get_or ts (k + 2) (pos 0)) = search rules in
     let fm : SFits w64 (get_or c.args.multipliers.now k (pos 0)) = search rules in
-    let fa = fits64 c.step-between-a.result (omega arith) in
-    let fb = fits64 c.step-between-b.result (omega arith) in
-    let a = simp to_z-of_z at c.step-between-a.ensures.value in
-    let b = simp to_z-of_z at c.step-between-b.ensures.value in
+    let fa = fits64 c.step_between-a.result (omega arith) in
+    let fb = fits64 c.step_between-b.result (omega arith) in
+    let a = simp to_z-of_z at c.step_between-a.ensures.value in
+    let b = simp to_z-of_z at c.step_between-b.ensures.value in
     let column = simp b at (simp to_z-of_z at c.plus.ensures) in
     let here = simp (a, b) at (simp to_z-of_z at c.minus-here.ensures.value) in
     let next = simp a at (simp to_z-of_z at c.times-next.ensures.value) in (
       written_more k _ _ _ _ _ c.loop-k.columns c.loop-k.invariant.0 (omega arith)
           (back_more ts c.args.multipliers.now k _ _ _ _ _ (omega arith) (omega arith)
-          (to_z-of_z w64 c.plus.result (record { sfits = c.plus.type-inv }) ∙ column)
-          (to_z-of_z w64 c.minus-here.result (record { sfits = c.minus-here.type-inv }) ∙ here)
-          (to_z-of_z w64 c.times-next.result (record { sfits = c.times-next.type-inv }) ∙ next)),
+          (to_z-of_z w64 c.plus.result (record { sfits = c.plus.type_inv }) ∙ column)
+          (to_z-of_z w64 c.minus-here.result (record { sfits = c.minus-here.type_inv }) ∙ here)
+          (to_z-of_z w64 c.times-next.result (record { sfits = c.times-next.type_inv }) ∙ next)),
       size_back64 c.minus-here.result c.minus-here.ensures.small (omega arith),
       size_back64 c.times-next.result c.times-next.ensures.small (omega arith),
     )

@@ -7,8 +7,8 @@ use Rattle.roughness.proofs.differences.write_differences.Goals as goal
 pub loop-k-init : goal.loop-k-init
 loop-k-init c = written_none _ _
 
-pub overflow-sub-rows : goal.overflow-sub-rows
-overflow-sub-rows c = omega (arith, ints, size_at c.args.values.now c.loop-k.k, size_at c.args.values.now (c.loop-k.k + 1))
+pub overflow_sub-rows : goal.overflow_sub-rows
+overflow_sub-rows c = omega (arith, ints, size_at c.args.values.now c.loop-k.k, size_at c.args.values.now (c.loop-k.k + 1))
 
 pub loop-k-preserved : goal.loop-k-preserved
 loop-k-preserved c =

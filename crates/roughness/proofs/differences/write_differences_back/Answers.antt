@@ -7,8 +7,8 @@ use Rattle.roughness.proofs.differences.write_differences_back.Goals as goal
 pub loop-k-init : goal.loop-k-init
 loop-k-init c = (written_none _ _, omega arith)
 
-pub overflow-sub-columns : goal.overflow-sub-columns
-overflow-sub-columns c = omega (arith, ints, size_at c.args.multipliers.now c.loop-k.k, c.loop-k.invariant.1)
+pub overflow_sub-columns : goal.overflow_sub-columns
+overflow_sub-columns c = omega (arith, ints, size_at c.args.multipliers.now c.loop-k.k, c.loop-k.invariant.1)
 
 pub loop-k-preserved : goal.loop-k-preserved
 loop-k-preserved c =

@@ -3,12 +3,12 @@ use Rattle.roughness.specs.Maps.{slope}
 use Rattle.roughness.proofs.Calls.{back_checks, fills_refused, fills_done}
 use Rattle.roughness.proofs.slope.SlopeRoughness.back.Goals as goal
 
-pub returns-in-err-check-back : goal.returns-in-err-check-back
-returns-in-err-check-back c =
+pub returns-in_err-check_back : goal.returns-in_err-check_back
+returns-in_err-check_back c =
     fills_refused slope (back_checks c.args.minutes.now c.args.multipliers.now (length c.args.columns.now)) _
-    c.growth.ensures c.reach-reach.ensures c.in-err-check-back.ensures c.from-residual.ensures.1
+    c.growth.ensures c.reach-reach.ensures c.in_err-check_back.ensures c.from_residual.ensures.1
 
 pub returns : goal.returns
 returns c =
     fills_done slope (back_checks c.args.minutes.now c.args.multipliers.now (length c.args.columns.now))
-    c.growth.ensures c.reach-reach.ensures c.in-ok-check-back.ensures c.write-bends-back.ensures
+    c.growth.ensures c.reach-reach.ensures c.in_ok-check_back.ensures c.write_bends_back.ensures
