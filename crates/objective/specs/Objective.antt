@@ -12,7 +12,7 @@
 --     BendsAllow, MisfitsAllow      the two parts of that, of multipliers and of columns
 --     gap_of            D times the cost, less the floor
 --     within            whether the gap is at most D times the allowance
--- A lawful weight, stiffness or denominator is no negative number, so `nat_abs` takes nothing away from it.
+-- A lawful weight, stiffness or denominator is no negative number, so `unsigned_abs` takes nothing away from it.
 use Rattle.std.specs.Prelude.{◌≡◌, ℕ, ◌+◌, ◌*◌, Bool, true, List, [], ◌∷◌, length, ℤ, pos, ◌-ℤ◌, neg_ℤ, int_le, unsigned_abs}
 use Rattle.kinds.specs.declared.reading.Reading.{Reading}
 use Rattle.kinds.specs.Figures.{dot}

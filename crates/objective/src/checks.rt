@@ -4,7 +4,7 @@ ghost use Rattle.kinds.specs.Checks.{answer};
 ghost use Rattle.objective.specs.Checks.{kinds_no, settings_no, reading_no, readings_no};
 ghost use Rattle.objective.specs.Objective.{three};
 
-use crate::kinds::Kinds;
+use crate::trio::Kinds;
 use kinds::minutes::may_come;
 use kinds::penalty::Penalty;
 use kinds::reading::Reading;

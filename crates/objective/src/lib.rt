@@ -3,8 +3,8 @@
 
 pub mod checks;
 pub mod gap;
-pub mod kinds;
 mod offers;
 mod places;
 mod sums;
+pub mod trio;
 pub mod weigh;

@@ -7,7 +7,7 @@ ghost use Rattle.objective.specs.Checks.{is_stiffness, is_value, table_no, multi
 ghost use Rattle.objective.specs.Objective.{three};
 
 use crate::checks::check_kinds;
-use crate::kinds::Kinds;
+use crate::trio::Kinds;
 use kinds::penalty::Penalty;
 use kinds::reading::Reading;
 use kinds::refusal::{Cause, Refusal};

@@ -9,10 +9,10 @@ ghost use Rattle.objective.specs.Objective.{three, crudes, misfit_cost, bend_cos
 ghost use Rattle.objective.specs.Promises.{WeighsTable, WeighsMultipliers};
 
 use crate::checks::check_readings;
-use crate::kinds::Kinds;
 use crate::offers::{check_columns, check_multipliers, check_table};
 use crate::places::{fill, fill_columns, fill_rows};
 use crate::sums::{bend_sum, floor_sum, misfit_sum};
+use crate::trio::Kinds;
 use kinds::penalty::Penalty;
 use kinds::reading::Reading;
 use kinds::refusal::{Cause, Refusal};
