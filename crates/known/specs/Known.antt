@@ -10,7 +10,7 @@ use Rattle.kinds.specs.declared.refusal.Refusal.{Refusal}
 use Rattle.kinds.specs.Penalty.{PenaltyMeaning}
 use Rattle.kinds.specs.Roughness.{RoughnessMeaning}
 use Rattle.penalties.specs.Sides.{absolute, lopsided}
-use Rattle.roughness.specs.Maps.{first as first_kind, slope as slope-kind, raised}
+use Rattle.roughness.specs.Maps.{first as first_kind, slope as slope_kind, raised}
 use Rattle.known.specs.declared.penalty.KnownPenalty.{KnownPenalty}
 use Rattle.known.specs.declared.penalty.KnownPenalty.TheVariants.{Absolute, Lopsided}
 use Rattle.known.specs.declared.roughness.KnownRoughness.{KnownRoughness}
@@ -25,9 +25,9 @@ roughness_meaning (First k) = first_kind
 roughness_meaning (FirstOnce k) = raised_times 1 first_kind
 roughness_meaning (FirstTwice k) = raised_times 2 first_kind
 roughness_meaning (FirstThrice k) = raised_times 3 first_kind
-roughness_meaning (Slope k) = slope-kind
-roughness_meaning (SlopeOnce k) = raised_times 1 slope-kind
-roughness_meaning (SlopeTwice k) = raised_times 2 slope-kind
+roughness_meaning (Slope k) = slope_kind
+roughness_meaning (SlopeOnce k) = raised_times 1 slope_kind
+roughness_meaning (SlopeTwice k) = raised_times 2 slope_kind
 
 abbrev pub penalty_meaning : KnownPenalty → PenaltyMeaning
 penalty_meaning (Absolute k) = absolute

@@ -1,5 +1,5 @@
 -- Weak duality: a floor of lawful multipliers holds for every table, for any kinds that keep their laws.
-use Rattle.std.proofs.Common.{◌≡◌, ℕ, suc, ◌*◌, ◌≤◌, List, [], ◌∷◌, length, ℤ, pos, ◌+ℤ◌, ◌-ℤ◌, neg_ℤ, nat_abs, ◌≤ℤ◌, refl, ap, mul_add, arith}
+use Rattle.std.proofs.Common.{◌≡◌, ℕ, suc, ◌*◌, ◌≤◌, List, [], ◌∷◌, length, ℤ, pos, ◌+ℤ◌, ◌-ℤ◌, neg_ℤ, nat_abs, ◌≤ℤ◌, refl, ap, mul-add, arith}
 use native.Mathlib.Nat.{le_of_mul-le-mul_left}
 use borrow.Author.Differences.{ints, le_out, at_most_in, le-true}
 use Rattle.kinds.specs.declared.reading.Reading.{Reading}
@@ -50,4 +50,4 @@ floor_holds k law h d hw hd xs ms w m vs e =
 pub near_best : (k : KindsMeaning) (h d : ℕ) → 1 ≤ d → (xs : List Reading) (floor : ℤ) → NoTableBeats k h xs d floor → NearBest k h xs d floor
 near_best k h d one xs floor holds g table vs et ev w =
     le_of_mul-le-mul_left {k = d}
-    (omega (arith, linear, le_out, le-true, holds vs ev, mul_add d (cost_of k h xs vs) g)) one
+    (omega (arith, linear, le_out, le-true, holds vs ev, mul-add d (cost_of k h xs vs) g)) one

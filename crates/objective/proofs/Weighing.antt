@@ -9,7 +9,7 @@ use Rattle.kinds.specs.declared.refusal.Refusal.{Refusal}
 use Rattle.kinds.specs.Checks.{located, or_else, first_off, first_off_from}
 use Rattle.kinds.specs.Figures.{largest, over}
 use Rattle.kinds.specs.Roughness.{RoughnessLaws, told_reach, filled}
-use Rattle.kinds.proofs.Passing.{pass, says_no, says_so}
+use Rattle.kinds.proofs.Passing.{says_no, says_so}
 use Rattle.kinds.proofs.Places.{take_over}
 use Rattle.kinds.proofs.Ring.{mul_most}
 use Rattle.objective.specs.Checks.{is_value, is_stiffness, stiffness_no, readings_no, table_no, weigh_table_no}

@@ -10,7 +10,7 @@ pub returns : goal.returns
 returns c =
     let fd = c.ranges.denominator in
     let fa = c.ranges.allowance in
-    let abs = simp to_z-of_z at c.unsigned-abs.ensures.value in
+    let abs = simp to_z-of_z at c.unsigned_abs.ensures.value in
     let cost = simp to_z-of_z at c.times.ensures.value in
     let allowed = simp to_z-of_z at c.times-allowed.ensures.value ∙ ap (λ (n : ℕ). nat_abs c.args.denominator * n) abs in
     let passes : gap_no c.args.denominator c.args.allowance ≡ None = grind (arith, ints) in

@@ -6,6 +6,6 @@ use Rattle.objective.proofs.gap.times.Goals as goal
 pub returns : goal.returns
 returns c =
     let fd = c.ranges.denominator in
-    let is = simp to_z-of_z at c.unsigned-abs.ensures.value in
+    let is = simp to_z-of_z at c.unsigned_abs.ensures.value in
     let few = c.ranges.figure.fits in
-    record { value = ap (λ (n : ℕ). n * c.args.figure) is; bound = omega (arith, mul_most {a = c.unsigned-abs.result} {b = c.args.figure} {m = 1000} {n = 18446744073709551616} (omega (arith, is, c.requires)) (omega arith)) }
+    record { value = ap (λ (n : ℕ). n * c.args.figure) is; bound = omega (arith, mul_most {a = c.unsigned_abs.result} {b = c.args.figure} {m = 1000} {n = 18446744073709551616} (omega (arith, is, c.requires)) (omega arith)) }

@@ -15,14 +15,14 @@ use Rattle.objective.proofs.offers.check_columns.Goals as goal
 negated : (z : ℤ) → nat_abs z ≤ 1000000000000 → to_z w64 (of_z w64 (pos 0 -ℤ to_z w64 (of_z w64 z))) ≡ neg_ℤ z
 negated z h = omega (arith, ints)
 
-pub overflow-sub-column : goal.overflow-sub-column
-overflow-sub-column g c =
+pub overflow_sub-column : goal.overflow_sub-column
+overflow_sub-column g c =
     let z = get_or c.args.columns.now c.loop-place.place (pos 0) in
     let h : nat_abs z ≤ 1000000000000 = omega (arith, size_at c.args.columns.now c.loop-place.place, c.requires.small) in
     omega (arith, ints)
 
-pub slope-fits-requires : goal.slope-fits-requires
-slope-fits-requires g c =
+pub slope_fits-requires : goal.slope_fits-requires
+slope_fits-requires g c =
     let xs = c.args.readings.now in
     let i = c.loop-place.place in
     let fine = weighs (get_or xs i blank) (figures_at 0 None xs c.requires.noted i (omega (arith, c.requires.long))) in
@@ -32,8 +32,8 @@ slope-fits-requires g c =
       divides = to_bits (λ (d : ℤ). is_denominator d ≡ true) c.args.denominator c.ranges.denominator c.requires.divides;
     }
 
-pub returns-then-not-slope-fits : goal.returns-then-not-slope-fits
-returns-then-not-slope-fits g c =
+pub returns-then-not-slope_fits : goal.returns-then-not-slope_fits
+returns-then-not-slope_fits g c =
     let cs = c.args.columns.now in
     let xs = c.args.readings.now in
     let i = c.loop-place.place in
@@ -41,9 +41,9 @@ returns-then-not-slope-fits g c =
     let h : nat_abs z ≤ 1000000000000 = omega (arith, size_at cs i, c.requires.small) in
     let p = g.P.Penalty.meaning c.args.misfit.now in
     let d' = to_z w64 (of_z w64 c.args.denominator) in
-    let told = from_bits (λ (w : ℤ). c.slope-fits.result ≡ p.allows (nat_abs w) (nat_abs d') (to_z w64 (of_z w64 (pos 0 -ℤ to_z w64 (of_z w64 z))))) (get_or xs i blank).weight (search rules) c.slope-fits.ensures ∙ ap (p.allows _ _) (negated z h) in
+    let told = from_bits (λ (w : ℤ). c.slope_fits.result ≡ p.allows (nat_abs w) (nat_abs d') (to_z w64 (of_z w64 (pos 0 -ℤ to_z w64 (of_z w64 z))))) (get_or xs i blank).weight (search rules) c.slope_fits.ensures ∙ ap (p.allows _ _) (negated z h) in
     says_no _ _ _ (ap (located Column) (from_bits (λ (d : ℤ). first_column_off p (nat_abs d) 0 cs xs ≡ Some i) c.args.denominator c.ranges.denominator
-    (column_stop p _ i cs xs _ c.loop-place-test.true c.requires.long c.loop-place.invariant (sym told ∙ c.if-not-slope-fits.true))))
+    (column_stop p _ i cs xs _ c.loop-place-test.true c.requires.long c.loop-place.invariant (sym told ∙ c.if-not-slope_fits.true))))
 
 pub loop-place-preserved : goal.loop-place-preserved
 loop-place-preserved g c =
@@ -54,8 +54,8 @@ loop-place-preserved g c =
     let h : nat_abs z ≤ 1000000000000 = omega (arith, size_at cs i, c.requires.small) in
     let p = g.P.Penalty.meaning c.args.misfit.now in
     let d' = to_z w64 (of_z w64 c.args.denominator) in
-    let told = from_bits (λ (w : ℤ). c.slope-fits.result ≡ p.allows (nat_abs w) (nat_abs d') (to_z w64 (of_z w64 (pos 0 -ℤ to_z w64 (of_z w64 z))))) (get_or xs i blank).weight (search rules) c.slope-fits.ensures ∙ ap (p.allows _ _) (negated z h) in
-    column_more p _ i cs xs _ c.loop-place-test.true c.requires.long c.loop-place.invariant (sym told ∙ c.if-not-slope-fits.false)
+    let told = from_bits (λ (w : ℤ). c.slope_fits.result ≡ p.allows (nat_abs w) (nat_abs d') (to_z w64 (of_z w64 (pos 0 -ℤ to_z w64 (of_z w64 z))))) (get_or xs i blank).weight (search rules) c.slope_fits.ensures ∙ ap (p.allows _ _) (negated z h) in
+    column_more p _ i cs xs _ c.loop-place-test.true c.requires.long c.loop-place.invariant (sym told ∙ c.if-not-slope_fits.false)
 
 pub returns : goal.returns
 returns g c =

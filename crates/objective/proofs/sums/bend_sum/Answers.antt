@@ -7,8 +7,8 @@ use Rattle.objective.specs.Objective.{bend_cost}
 use Rattle.objective.proofs.Totals.{stiffness_weighs, small_residual}
 use Rattle.objective.proofs.sums.bend_sum.Goals as goal
 
-pub cost-at-sum-requires : goal.cost-at-sum-requires
-cost-at-sum-requires g c =
+pub cost_at-sum-requires : goal.cost_at-sum-requires
+cost_at-sum-requires g c =
     let rs = c.args.rows.now in
     let i = c.loop-row.row-index in
     record {
@@ -17,8 +17,8 @@ cost-at-sum-requires g c =
       small = to_bits (λ (r : ℤ). is_residual r ≡ true) (get_or rs i (pos 0)) (search rules) (small_residual (get_or rs i (pos 0)) (omega (arith, size_at rs i, c.requires.small)));
     }
 
-pub overflow-add-sum : goal.overflow-add-sum
-overflow-add-sum g c = omega (arith, c.loop-row.invariant.1, c.cost-at-sum.ensures.bound, c.requires.few)
+pub overflow_add-sum : goal.overflow_add-sum
+overflow_add-sum g c = omega (arith, c.loop-row.invariant.1, c.cost_at-sum.ensures.bound, c.requires.few)
 
 pub loop-row-preserved : goal.loop-row-preserved
 loop-row-preserved g c =
@@ -26,9 +26,9 @@ loop-row-preserved g c =
     let i = c.loop-row.row-index in
     let p = g.P.Penalty.meaning c.args.bend.now in
     let h' = to_z w64 (of_z w64 c.args.stiffness) in
-    let is = from_bits (λ (r : ℤ). c.cost-at-sum.result ≡ p.cost (nat_abs h') r) (get_or rs i (pos 0)) (search rules) c.cost-at-sum.ensures.value in
+    let is = from_bits (λ (r : ℤ). c.cost_at-sum.result ≡ p.cost (nat_abs h') r) (get_or rs i (pos 0)) (search rules) c.cost_at-sum.ensures.value in
     let step = at_drop_more (bend_cost p (nat_abs h')) rs i (pos 0) c.loop-row-test.true in
-    (omega (arith, is, step, c.loop-row.invariant.0), omega (arith, c.loop-row.invariant.1, c.cost-at-sum.ensures.bound))
+    (omega (arith, is, step, c.loop-row.invariant.0), omega (arith, c.loop-row.invariant.1, c.cost_at-sum.ensures.bound))
 
 pub returns : goal.returns
 returns g c =

@@ -4,8 +4,8 @@ use Rattle.kinds.proofs.Bits.{fits64}
 use Rattle.kinds.proofs.Ring.{size_mul_most}
 use Rattle.objective.proofs.sums.product_of.Goals as goal
 
-pub overflow-mul-result : goal.overflow-mul-result
-overflow-mul-result c =
+pub overflow_mul-result : goal.overflow_mul-result
+overflow_mul-result c =
     let fc = c.ranges.column in
     let fz = c.ranges.crude in
     let most = size_mul_most c.args.column c.args.crude c.requires.small c.requires.crudes in

@@ -14,8 +14,8 @@ returns g c =
     let ms = c.args.multipliers.now in
     let h = c.args.stiffness in
     let d = c.args.denominator in
-    let r = c.check-multipliers.result in
-    let stiff = from_bits (λ (h : ℤ). stiffness_no h ≡ None) h c.ranges.stiffness (passed _ _ _ c.in-ok-check-stiffness.ensures) in
+    let r = c.check_multipliers.result in
+    let stiff = from_bits (λ (h : ℤ). stiffness_no h ≡ None) h c.ranges.stiffness (passed _ _ _ c.in_ok-check_stiffness.ensures) in
     let last = from_bits (λ (h : ℤ). r ≡ answer (multipliers_no k (nat_abs h) (length xs) d ms c.args.room) tt) h c.ranges.stiffness
-    (from_bits (λ (d : ℤ). r ≡ answer (multipliers_no k (nat_abs (to_z w64 (of_z w64 h))) (length xs) d ms c.args.room) tt) d c.ranges.denominator c.check-multipliers.ensures) in
-    last_of_three (stiffness_no h) (readings_no xs) (multipliers_no k (nat_abs h) (length xs) d ms c.args.room) r stiff (passed _ _ _ c.in-ok-check-readings.ensures) last
+    (from_bits (λ (d : ℤ). r ≡ answer (multipliers_no k (nat_abs (to_z w64 (of_z w64 h))) (length xs) d ms c.args.room) tt) d c.ranges.denominator c.check_multipliers.ensures) in
+    last_of_three (stiffness_no h) (readings_no xs) (multipliers_no k (nat_abs h) (length xs) d ms c.args.room) r stiff (passed _ _ _ c.in_ok-check_readings.ensures) last

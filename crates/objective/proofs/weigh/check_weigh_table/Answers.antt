@@ -11,6 +11,6 @@ returns g c =
     let k = three (g.R.Roughness.meaning c.args.kinds.now.roughness) (g.M.Penalty.meaning c.args.kinds.now.misfit) (g.B.Penalty.meaning c.args.kinds.now.bend) in
     let xs = c.args.readings.now in
     let h = c.args.stiffness in
-    let stiff = from_bits (λ (h : ℤ). stiffness_no h ≡ None) h c.ranges.stiffness (passed _ _ _ c.in-ok-check-stiffness.ensures) in
-    last_of_three (stiffness_no h) (readings_no xs) (table_no k (length xs) c.args.table.now c.args.room) c.check-table.result
-    stiff (passed _ _ _ c.in-ok-check-readings.ensures) c.check-table.ensures
+    let stiff = from_bits (λ (h : ℤ). stiffness_no h ≡ None) h c.ranges.stiffness (passed _ _ _ c.in_ok-check_stiffness.ensures) in
+    last_of_three (stiffness_no h) (readings_no xs) (table_no k (length xs) c.args.table.now c.args.room) c.check_table.result
+    stiff (passed _ _ _ c.in_ok-check_readings.ensures) c.check_table.ensures

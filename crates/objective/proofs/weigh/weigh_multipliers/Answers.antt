@@ -12,57 +12,57 @@ use Rattle.objective.proofs.Flooring.{floorable, multipliers_most, columned, cut
 use Rattle.objective.proofs.Noted.{few}
 use Rattle.objective.proofs.weigh.weigh_multipliers.Goals as goal
 
-pub returns-in-err-check-before-columns : goal.returns-in-err-check-before-columns
-returns-in-err-check-before-columns g c =
+pub returns-in_err-check_before_columns : goal.returns-in_err-check_before_columns
+returns-in_err-check_before_columns g c =
     let k = three (g.R.Roughness.meaning c.args.kinds.now.roughness) (g.M.Penalty.meaning c.args.kinds.now.misfit) (g.B.Penalty.meaning c.args.kinds.now.bend) in
     let h = c.args.stiffness in
     let xs = c.args.readings.now in
     let d = c.args.denominator in
     let ms = c.args.multipliers.now in
     let law : KindsLaws k = record { roughness = g.met.R.Roughness.kept c.args.kinds.now.roughness; misfit = g.met.M.Penalty.kept c.args.kinds.now.misfit; bend = g.met.B.Penalty.kept c.args.kinds.now.bend } in
-    let p = err_from_is_err_and c.from-residual.result c.from-residual.ensures.1 in
-    let no_because = cleaned (λ (h d : ℤ). before_columns_no k h xs d ms (length c.args.columns.now) ≡ Some c.in-err-check-before-columns.field-0.0) h d c.ranges.stiffness c.ranges.denominator
-    (refused _ _ _ c.in-err-check-before-columns.ensures) in
+    let p = err_from_is_err_and c.from_residual.result c.from_residual.ensures.1 in
+    let no_because = cleaned (λ (h d : ℤ). before_columns_no k h xs d ms (length c.args.columns.now) ≡ Some c.in_err-check_before_columns.field-0.0) h d c.ranges.stiffness c.ranges.denominator
+    (refused _ _ _ c.in_err-check_before_columns.ensures) in
     rw (p.1, p.2) (floor_refused k law h xs d ms c.args.columns.now _ (stopped_before k h xs d ms (length c.args.columns.now) _ no_because))
 
-pub fill-columns-requires : goal.fill-columns-requires
-fill-columns-requires g c =
+pub fill_columns-requires : goal.fill_columns-requires
+fill_columns-requires g c =
     let k = three (g.R.Roughness.meaning c.args.kinds.now.roughness) (g.M.Penalty.meaning c.args.kinds.now.misfit) (g.B.Penalty.meaning c.args.kinds.now.bend) in
     let h = c.args.stiffness in
     let xs = c.args.readings.now in
     let d = c.args.denominator in
     let ms = c.args.multipliers.now in
-    let fine = cleaned (λ (h d : ℤ). before_columns_no k h xs d ms (length c.args.columns.now) ≡ None) h d c.ranges.stiffness c.ranges.denominator (passed _ _ _ c.in-ok-check-before-columns.ensures) in
+    let fine = cleaned (λ (h d : ℤ). before_columns_no k h xs d ms (length c.args.columns.now) ≡ None) h d c.ranges.stiffness c.ranges.denominator (passed _ _ _ c.in_ok-check_before_columns.ensures) in
     let f = floorable k h xs d ms (length c.args.columns.now) fine in
     let most = multipliers_most k (g.met.B.Penalty.kept c.args.kinds.now.bend) h xs d ms (length c.args.columns.now) f in
     record { noted = f.noted; grows = f.grows; reaches = f.reaches; long = f.long; small = most; room = omega (arith, few 0 None xs f.noted (omega arith)) }
 
-pub returns-in-err-fill-columns : goal.returns-in-err-fill-columns
-returns-in-err-fill-columns g c = absurd (apart _ _ _ c.in-err-fill-columns.was c.fill-columns.ensures.value)
+pub returns-in_err-fill_columns : goal.returns-in_err-fill_columns
+returns-in_err-fill_columns g c = absurd (apart _ _ _ c.in_err-fill_columns.was c.fill_columns.ensures.value)
 
-pub slice-bounds-floor-of-end : goal.slice-bounds-floor-of-end
-slice-bounds-floor-of-end g c =
+pub slice_bounds-floor_of-end : goal.slice_bounds-floor_of-end
+slice_bounds-floor_of-end g c =
     let k = three (g.R.Roughness.meaning c.args.kinds.now.roughness) (g.M.Penalty.meaning c.args.kinds.now.misfit) (g.B.Penalty.meaning c.args.kinds.now.bend) in
     let h = c.args.stiffness in
     let xs = c.args.readings.now in
     let d = c.args.denominator in
     let ms = c.args.multipliers.now in
-    let fine = cleaned (λ (h d : ℤ). before_columns_no k h xs d ms (length c.args.columns.now) ≡ None) h d c.ranges.stiffness c.ranges.denominator (passed _ _ _ c.in-ok-check-before-columns.ensures) in
+    let fine = cleaned (λ (h d : ℤ). before_columns_no k h xs d ms (length c.args.columns.now) ≡ None) h d c.ranges.stiffness c.ranges.denominator (passed _ _ _ c.in_ok-check_before_columns.ensures) in
     let f = floorable k h xs d ms (length c.args.columns.now) fine in
-    omega (arith, few 0 None xs f.noted (omega arith), c.fill-columns.auto.place)
+    omega (arith, few 0 None xs f.noted (omega arith), c.fill_columns.auto.place)
 
-pub floor-of-requires : goal.floor-of-requires
-floor-of-requires g c =
+pub floor_of-requires : goal.floor_of-requires
+floor_of-requires g c =
     let k = three (g.R.Roughness.meaning c.args.kinds.now.roughness) (g.M.Penalty.meaning c.args.kinds.now.misfit) (g.B.Penalty.meaning c.args.kinds.now.bend) in
     let h = c.args.stiffness in
     let xs = c.args.readings.now in
     let d = c.args.denominator in
     let ms = c.args.multipliers.now in
-    let fine = cleaned (λ (h d : ℤ). before_columns_no k h xs d ms (length c.args.columns.now) ≡ None) h d c.ranges.stiffness c.ranges.denominator (passed _ _ _ c.in-ok-check-before-columns.ensures) in
+    let fine = cleaned (λ (h d : ℤ). before_columns_no k h xs d ms (length c.args.columns.now) ≡ None) h d c.ranges.stiffness c.ranges.denominator (passed _ _ _ c.in_ok-check_before_columns.ensures) in
     let f = floorable k h xs d ms (length c.args.columns.now) fine in
     let most = multipliers_most k (g.met.B.Penalty.kept c.args.kinds.now.bend) h xs d ms (length c.args.columns.now) f in
     let cs = columned k (g.met.R.Roughness.kept c.args.kinds.now.roughness) h xs d ms (length c.args.columns.now) f most in
-    let cut = cut_columns k xs ms c.fill-columns.new.place _ cs c.fill-columns.ensures.place in
+    let cut = cut_columns k xs ms c.fill_columns.new.place _ cs c.fill_columns.ensures.place in
     record {
       steep = f.misfit_steep;
       divides = to_bits (λ (d : ℤ). is_denominator d ≡ true) d c.ranges.denominator f.divides;
@@ -80,12 +80,12 @@ returns g c =
     let d = c.args.denominator in
     let ms = c.args.multipliers.now in
     let law : KindsLaws k = record { roughness = g.met.R.Roughness.kept c.args.kinds.now.roughness; misfit = g.met.M.Penalty.kept c.args.kinds.now.misfit; bend = g.met.B.Penalty.kept c.args.kinds.now.bend } in
-    let fine = cleaned (λ (h d : ℤ). before_columns_no k h xs d ms (length c.args.columns.now) ≡ None) h d c.ranges.stiffness c.ranges.denominator (passed _ _ _ c.in-ok-check-before-columns.ensures) in
+    let fine = cleaned (λ (h d : ℤ). before_columns_no k h xs d ms (length c.args.columns.now) ≡ None) h d c.ranges.stiffness c.ranges.denominator (passed _ _ _ c.in_ok-check_before_columns.ensures) in
     let f = floorable k h xs d ms (length c.args.columns.now) fine in
     let most = multipliers_most k (g.met.B.Penalty.kept c.args.kinds.now.bend) h xs d ms (length c.args.columns.now) f in
     let cs = columned k (g.met.R.Roughness.kept c.args.kinds.now.roughness) h xs d ms (length c.args.columns.now) f most in
-    let cut = cut_columns k xs ms c.fill-columns.new.place _ cs c.fill-columns.ensures.place in
-    let found = take (length xs - 0) c.fill-columns.new.place in
+    let cut = cut_columns k xs ms c.fill_columns.new.place _ cs c.fill_columns.ensures.place in
+    let found = take (length xs - 0) c.fill_columns.new.place in
     floor_settled k law h xs d ms c.args.columns.now c.floor_of.new.place found c.floor_of.result cut fine
     (from_bits (λ (d : ℤ). c.floor_of.result ≡ answer (columns_no k.misfit (nat_abs d) found xs) (dot found (crudes xs))) d c.ranges.denominator c.floor_of.ensures.value)
     (from_bits (λ (d : ℤ). c.floor_of.new.place ≡ filled (columns_no k.misfit (nat_abs d) found xs) found c.args.columns.now) d c.ranges.denominator c.floor_of.ensures.place)
