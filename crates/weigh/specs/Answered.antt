@@ -62,13 +62,13 @@ call_answer (Some f) said_line figures room = line_answer f said_line figures ro
 
 -- of the same for any line, and the answer; what kinds come to is told by the call that starts a firing
 abbrev pub Answers : Option Firing → Line → List ℤ → ℕ → Option Answer → Type 0
-Answers at-hand line.Blank figures room a = a ≡ None
-Answers at-hand (line.Kinds roughness misfit bend) figures room a = a ≡ None → ⊥
-Answers at-hand (line.Set stiffness allowance) figures room a = a ≡ Some (call_answer at-hand (line.Set stiffness allowance) figures room)
-Answers at-hand (line.Note minute crude weight) figures room a = a ≡ Some (call_answer at-hand (line.Note minute crude weight) figures room)
-Answers at-hand (line.Table count) figures room a = a ≡ Some (call_answer at-hand (line.Table count) figures room)
-Answers at-hand (line.Multipliers denominator count) figures room a = a ≡ Some (call_answer at-hand (line.Multipliers denominator count) figures room)
-Answers at-hand line.Unknown figures room a = a ≡ Some NotACall
+Answers at_hand line.Blank figures room a = a ≡ None
+Answers at_hand (line.Kinds roughness misfit bend) figures room a = a ≡ None → ⊥
+Answers at_hand (line.Set stiffness allowance) figures room a = a ≡ Some (call_answer at_hand (line.Set stiffness allowance) figures room)
+Answers at_hand (line.Note minute crude weight) figures room a = a ≡ Some (call_answer at_hand (line.Note minute crude weight) figures room)
+Answers at_hand (line.Table count) figures room a = a ≡ Some (call_answer at_hand (line.Table count) figures room)
+Answers at_hand (line.Multipliers denominator count) figures room a = a ≡ Some (call_answer at_hand (line.Multipliers denominator count) figures room)
+Answers at_hand line.Unknown figures room a = a ≡ Some NotACall
 
 abbrev pub Starts : Option Firing → Answer → Option Firing → Type 0
 Starts before Done after = is_some after ≡ true

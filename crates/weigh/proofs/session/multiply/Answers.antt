@@ -20,8 +20,8 @@ returns-in-Ok c =
     let fits : SFits w64 c.in-Ok.floor = search rules in
     let stored = to_z-of_z w64 c.in-Ok.floor fits in
     record {
-      answered = ap₂ Multipliers (stored ∙ value) (c.columns.ensures ∙ c.keep-floor.ensures.same.4) ∙ said_passed checks _ (passed checks _ _ told);
-      kept = when_passed _ _ checks (passed checks _ _ told) (c.keep-floor.ensures.kept.0 ∙ (λ i. Some (record { value = (stored ∙ value) i; denominator = to_z-of_z w64 c.args.denominator c.ranges.denominator i })));
+      answered = ap₂ Multipliers (stored ∙ value) (c.columns.ensures ∙ c.keep_floor.ensures.same.4) ∙ said_passed checks _ (passed checks _ _ told);
+      kept = when_passed _ _ checks (passed checks _ _ told) (c.keep_floor.ensures.kept.0 ∙ (λ i. Some (record { value = (stored ∙ value) i; denominator = to_z-of_z w64 c.args.denominator c.ranges.denominator i })));
     }
 
 pub returns-in-Err : goal.returns-in-Err

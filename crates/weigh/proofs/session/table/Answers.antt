@@ -11,12 +11,12 @@ pub returns-in-Ok : goal.returns-in-Ok
 returns-in-Ok c =
     let checks = table_no c.args.firing.now c.args.values.now (length c.args.place.now) in
     let told = c.in-Ok.ensures.answered in
-    let same = c.keep-cost.ensures.same in
+    let same = c.keep_cost.ensures.same in
     let rows = c.rows.ensures ∙ (λ i. same.4 i - told_reach (roughness_meaning (same.0 i).roughness)) in
     let value = told_value checks c.in-Ok.cost _ told in
     record {
       answered = ap₂ Table value rows ∙ said_passed checks _ (passed checks _ _ told);
-      kept = when_passed _ _ checks (passed checks _ _ told) (c.keep-cost.ensures.kept.0 ∙ ap (λ (n : ℕ). Some n) value);
+      kept = when_passed _ _ checks (passed checks _ _ told) (c.keep_cost.ensures.kept.0 ∙ ap (λ (n : ℕ). Some n) value);
     }
 
 pub returns-in-Err : goal.returns-in-Err

@@ -10,5 +10,5 @@ pub returns : goal.returns
 returns c =
     let self = c.args.self.now in
     let k = three (roughness_meaning self.kinds.roughness) (penalty_meaning self.kinds.misfit) (penalty_meaning self.kinds.bend) in
-    cleaned (λ (h d : ℤ). WeighsMultipliers k h (take self.count self.readings) d c.args.multipliers.now c.args.columns.now c.weigh-multipliers.new.columns c.weigh-multipliers.result) self.stiffness c.args.denominator (search rules) c.ranges.denominator
-    (subst (λ (n : ℕ). WeighsMultipliers k (to_z w64 (of_z w64 self.stiffness)) (take n self.readings) (to_z w64 (of_z w64 c.args.denominator)) c.args.multipliers.now c.args.columns.now c.weigh-multipliers.new.columns c.weigh-multipliers.result) (sub-zero self.count) c.weigh-multipliers.ensures)
+    cleaned (λ (h d : ℤ). WeighsMultipliers k h (take self.count self.readings) d c.args.multipliers.now c.args.columns.now c.weigh_multipliers.new.columns c.weigh_multipliers.result) self.stiffness c.args.denominator (search rules) c.ranges.denominator
+    (subst (λ (n : ℕ). WeighsMultipliers k (to_z w64 (of_z w64 self.stiffness)) (take n self.readings) (to_z w64 (of_z w64 c.args.denominator)) c.args.multipliers.now c.args.columns.now c.weigh_multipliers.new.columns c.weigh_multipliers.result) (sub-zero self.count) c.weigh_multipliers.ensures)

@@ -6,11 +6,11 @@ use Rattle.objective.specs.Checks.{reading_no}
 use Rattle.weigh.proofs.Ways.{when_passed, when_refused}
 use Rattle.weigh.proofs.firing.Firing.note.Goals as goal
 
-pub returns-in-err-check-reading : goal.returns-in-err-check-reading
-returns-in-err-check-reading c =
+pub returns-in_err-check_reading : goal.returns-in_err-check_reading
+returns-in_err-check_reading c =
     let self = c.args.self.now in
-    let no_because = refused (reading_no self.count 0 self.last c.args.reading) tt _ c.in-err-check-reading.ensures in
-    let p = err_from_is_err_and c.from-residual.result c.from-residual.ensures.1 in
+    let no_because = refused (reading_no self.count 0 self.last c.args.reading) tt _ c.in_err-check_reading.ensures in
+    let p = err_from_is_err_and c.from_residual.result c.from_residual.ensures.1 in
     record {
       answered = rw (p.1, p.2) (says_no _ _ _ no_because);
       readings = when_refused _ _ (reading_no self.count 0 self.last c.args.reading) _ no_because (refl, refl, refl);
@@ -21,7 +21,7 @@ returns-in-err-check-reading c =
 pub returns : goal.returns
 returns c =
     let self = c.args.self.now in
-    let fine = passed (reading_no self.count 0 self.last c.args.reading) tt _ c.in-ok-check-reading.ensures in
+    let fine = passed (reading_no self.count 0 self.last c.args.reading) tt _ c.in_ok-check_reading.ensures in
     record {
       answered = says_so _ _ fine;
       readings = when_passed _ _ (reading_no self.count 0 self.last c.args.reading) fine (c.forget.ensures.same.3, c.forget.ensures.same.4, search (rules, to_z-of_z));

@@ -10,5 +10,5 @@ pub returns : goal.returns
 returns c =
     let self = c.args.self.now in
     let k = three (roughness_meaning self.kinds.roughness) (penalty_meaning self.kinds.misfit) (penalty_meaning self.kinds.bend) in
-    from_bits (λ (h : ℤ). WeighsTable k h (take self.count self.readings) c.args.values.now c.args.rows.now c.weigh-table.new.rows c.weigh-table.result) self.stiffness (search rules)
-    (subst (λ (n : ℕ). WeighsTable k (to_z w64 (of_z w64 self.stiffness)) (take n self.readings) c.args.values.now c.args.rows.now c.weigh-table.new.rows c.weigh-table.result) (sub-zero self.count) c.weigh-table.ensures)
+    from_bits (λ (h : ℤ). WeighsTable k h (take self.count self.readings) c.args.values.now c.args.rows.now c.weigh_table.new.rows c.weigh_table.result) self.stiffness (search rules)
+    (subst (λ (n : ℕ). WeighsTable k (to_z w64 (of_z w64 self.stiffness)) (take n self.readings) c.args.values.now c.args.rows.now c.weigh_table.new.rows c.weigh_table.result) (sub-zero self.count) c.weigh_table.ensures)
