@@ -6,7 +6,7 @@ ghost use Rattle.catalogue.specs.Judged.{Marked, Judged};
 
 use known::penalty::KnownPenalty;
 use known::roughness::KnownRoughness;
-use objective::kinds::Kinds;
+use objective::trio::Kinds;
 use reader::contents::Contents;
 use reader::fault::Fault;
 use reader::read::read_file;

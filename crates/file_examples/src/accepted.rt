@@ -3,7 +3,7 @@ use archive::figures::Head;
 use archive::file::write_file;
 use kinds::reading::Reading;
 use kinds::refusal::{Cause, Refusal};
-use objective::kinds::Kinds;
+use objective::trio::Kinds;
 use penalties::absolute::Absolute;
 use reader::fault::Fault;
 use roughness::first::First;

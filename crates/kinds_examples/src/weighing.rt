@@ -2,7 +2,7 @@
 use kinds::reading::Reading;
 use kinds::refusal::{Cause, Refusal};
 use objective::gap::gap_between;
-use objective::kinds::Kinds;
+use objective::trio::Kinds;
 use objective::weigh::{weigh_multipliers, weigh_table};
 use penalties::absolute::Absolute;
 use roughness::first::First;

@@ -14,7 +14,7 @@ use kinds::penalty::Penalty;
 use kinds::refusal::Cause;
 use kinds::roughness::Roughness;
 use objective::gap::gap_between;
-use objective::kinds::Kinds;
+use objective::trio::Kinds;
 use reader::contents::Contents;
 use reader::fault::Fault;
 

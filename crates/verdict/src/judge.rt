@@ -9,7 +9,7 @@ use kinds::penalty::Penalty;
 use kinds::refusal::Cause;
 use kinds::roughness::Roughness;
 use objective::checks::check_kinds;
-use objective::kinds::Kinds;
+use objective::trio::Kinds;
 use reader::contents::{Contents, Wanted};
 use reader::fault::Fault;
 use reader::read::read_file;

@@ -13,7 +13,7 @@ use crate::opening::fault_from;
 use kinds::penalty::Penalty;
 use kinds::refusal::Cause;
 use kinds::roughness::Roughness;
-use objective::kinds::Kinds;
+use objective::trio::Kinds;
 use objective::weigh::{weigh_multipliers, weigh_table};
 use reader::contents::Contents;
 use reader::fault::Fault;

@@ -6,7 +6,7 @@ ghost use Rattle.weigh.specs.Named.{named_penalty};
 use kinds::refusal::Refusal;
 use known::penalty::KnownPenalty;
 use known::roughness::KnownRoughness;
-use objective::kinds::Kinds;
+use objective::trio::Kinds;
 use words::spellings::{PenaltyWord, RoughnessWord};
 
 // The kinds of a firing that the programs know.
