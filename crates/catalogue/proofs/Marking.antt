@@ -7,8 +7,8 @@ use Rattle.objective.specs.Checks.{kinds_no}
 use Rattle.objective.specs.Objective.{KindsMeaning}
 use Rattle.known.specs.declared.penalty.KnownPenalty.{KnownPenalty}
 use Rattle.known.specs.declared.penalty.KnownPenalty.TheVariants.{Absolute, Lopsided}
-use Rattle.known.specs.declared.roughness.KnownRoughness.{KnownRoughness}
-use Rattle.known.specs.declared.roughness.KnownRoughness.TheVariants.{First, FirstOnce, FirstTwice, FirstThrice, Slope, SlopeOnce, SlopeTwice}
+use Rattle.known.specs.declared.roughness_kind.KnownRoughness.{KnownRoughness}
+use Rattle.known.specs.declared.roughness_kind.KnownRoughness.TheVariants.{First, FirstOnce, FirstTwice, FirstThrice, Slope, SlopeOnce, SlopeTwice}
 use Rattle.known.specs.Known.{roughness_meaning, penalty_meaning}
 use Rattle.known.proofs.Marks.{same_roughness, same_penalty}
 use Rattle.catalogue.specs.Judged.{Marked}

@@ -16,7 +16,7 @@ use Rattle.reader.specs.Frames.{HeadIs}
 use Rattle.reader.specs.Readable.{Unreadable}
 use Rattle.verdict.specs.Verdicts.{Judges}
 use Rattle.known.specs.declared.penalty.KnownPenalty.{KnownPenalty}
-use Rattle.known.specs.declared.roughness.KnownRoughness.{KnownRoughness}
+use Rattle.known.specs.declared.roughness_kind.KnownRoughness.{KnownRoughness}
 use Rattle.known.specs.Known.{roughness_meaning, penalty_meaning}
 use Rattle.catalogue.specs.declared.head.Marks.{Marks}
 

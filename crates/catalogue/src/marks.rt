@@ -5,7 +5,7 @@ ghost use Rattle.objective.specs.Objective.{KindsMeaning, three};
 ghost use Rattle.catalogue.specs.Judged.{Marked, Judged};
 
 use known::penalty::KnownPenalty;
-use known::roughness::KnownRoughness;
+use known::roughness_kind::KnownRoughness;
 use objective::trio::Kinds;
 use reader::contents::Contents;
 use reader::fault::Fault;

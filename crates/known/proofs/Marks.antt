@@ -4,8 +4,8 @@ use Rattle.kinds.specs.Roughness.{RoughnessMeaning}
 use Rattle.roughness.specs.Maps.{first, slope}
 use Rattle.known.specs.declared.penalty.KnownPenalty.{KnownPenalty}
 use Rattle.known.specs.declared.penalty.KnownPenalty.TheVariants.{Absolute, Lopsided}
-use Rattle.known.specs.declared.roughness.KnownRoughness.{KnownRoughness}
-use Rattle.known.specs.declared.roughness.KnownRoughness.TheVariants.{First, FirstOnce, FirstTwice, FirstThrice, Slope, SlopeOnce, SlopeTwice}
+use Rattle.known.specs.declared.roughness_kind.KnownRoughness.{KnownRoughness}
+use Rattle.known.specs.declared.roughness_kind.KnownRoughness.TheVariants.{First, FirstOnce, FirstTwice, FirstThrice, Slope, SlopeOnce, SlopeTwice}
 use Rattle.known.specs.Known.{roughness_meaning, penalty_meaning, raised_times, Raises, RoughnessOf}
 
 -- each raising adds one

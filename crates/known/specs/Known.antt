@@ -13,8 +13,8 @@ use Rattle.penalties.specs.Sides.{absolute, lopsided}
 use Rattle.roughness.specs.Maps.{first as first_kind, slope as slope_kind, raised}
 use Rattle.known.specs.declared.penalty.KnownPenalty.{KnownPenalty}
 use Rattle.known.specs.declared.penalty.KnownPenalty.TheVariants.{Absolute, Lopsided}
-use Rattle.known.specs.declared.roughness.KnownRoughness.{KnownRoughness}
-use Rattle.known.specs.declared.roughness.KnownRoughness.TheVariants.{First, FirstOnce, FirstTwice, FirstThrice, Slope, SlopeOnce, SlopeTwice}
+use Rattle.known.specs.declared.roughness_kind.KnownRoughness.{KnownRoughness}
+use Rattle.known.specs.declared.roughness_kind.KnownRoughness.TheVariants.{First, FirstOnce, FirstTwice, FirstThrice, Slope, SlopeOnce, SlopeTwice}
 
 abbrev pub raised_times : ℕ → RoughnessMeaning → RoughnessMeaning
 raised_times zero k = k

@@ -3,4 +3,4 @@
 
 pub mod cases;
 pub mod penalty;
-pub mod roughness;
+pub mod roughness_kind;

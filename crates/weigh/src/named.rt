@@ -5,7 +5,7 @@ ghost use Rattle.weigh.specs.Named.{named_penalty};
 
 use kinds::refusal::Refusal;
 use known::penalty::KnownPenalty;
-use known::roughness::KnownRoughness;
+use known::roughness_kind::KnownRoughness;
 use objective::trio::Kinds;
 use words::spellings::{PenaltyWord, RoughnessWord};
 

@@ -1,7 +1,7 @@
 use Rattle.std.proofs.Common.{arith}
 use Rattle.roughness.specs.Maps.{first, slope}
 use Rattle.known.proofs.Marks.{raised_has}
-use Rattle.known.proofs.roughness.KnownRoughness.from_mark.Goals as goal
+use Rattle.known.proofs.roughness_kind.KnownRoughness.from_mark.Goals as goal
 
 pub returns-in-257-to-260 : goal.returns-in-257-to-260
 returns-in-257-to-260 c = raised_has first 3 _ c.args.mark c.first.result c.first.ensures (omega arith) (omega arith) (omega arith)

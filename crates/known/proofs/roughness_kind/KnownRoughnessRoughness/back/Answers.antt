@@ -1,7 +1,7 @@
 use Rattle.std.proofs.Common.{ap}
 use Rattle.known.specs.Known.{roughness_meaning}
 use Rattle.known.specs.Raised.{backs_as}
-use Rattle.known.proofs.roughness.KnownRoughnessRoughness.back.Goals as goal
+use Rattle.known.proofs.roughness_kind.KnownRoughnessRoughness.back.Goals as goal
 
 pub returns-in-First : goal.returns-in-First
 returns-in-First c = backs_as (ap roughness_meaning c.in-First.is) c.args.minutes.now c.args.multipliers.now c.args.columns.now _ _ c.back.ensures

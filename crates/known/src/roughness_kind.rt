@@ -1,7 +1,7 @@
 // The kinds of roughness that the programs know.
 ghost use Rattle.known.specs.Known.{roughness_meaning, Raises, RoughnessOf};
 ghost use Rattle.roughness.specs.Maps.{first, slope};
-ghost use Rattle.known.specs.declared.roughness.KnownRoughness.TheVariants.{First, FirstOnce, FirstTwice, FirstThrice, Slope, SlopeOnce, SlopeTwice};
+ghost use Rattle.known.specs.declared.roughness_kind.KnownRoughness.TheVariants.{First, FirstOnce, FirstTwice, FirstThrice, Slope, SlopeOnce, SlopeTwice};
 ghost use Rattle.roughness.specs.Kept.{first_kept, slope_kept};
 ghost use Rattle.known.specs.Raised.{raised_times_kept};
 

@@ -1,7 +1,7 @@
 use Rattle.std.proofs.Common.{ap}
 use Rattle.known.specs.Known.{roughness_meaning}
 use Rattle.known.specs.Raised.{forwards_as}
-use Rattle.known.proofs.roughness.KnownRoughnessRoughness.forward.Goals as goal
+use Rattle.known.proofs.roughness_kind.KnownRoughnessRoughness.forward.Goals as goal
 
 pub returns-in-First : goal.returns-in-First
 returns-in-First c = forwards_as (ap roughness_meaning c.in-First.is) c.args.minutes.now c.args.values.now c.args.rows.now _ _ c.forward.ensures
