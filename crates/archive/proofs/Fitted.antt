@@ -3,7 +3,7 @@
 --     fit_stop, fit_more, fit_all     a loop that tests a list from its start
 --     all_from_fit, fit_from_all      the test of a list, and what holds of each of its elements
 use Rattle.std.proofs.Common.{◌≡◌, ℕ, ◌+◌, ◌<◌, ◌≤◌, Bool, true, false, ◌&&◌, List, [], ◌∷◌, length, get_or, drop, ℤ, pos, negsuc, sym, refl, ap, ◌∙◌, arith, w32, SFits}
-use Rattle.std.specs.List.{AllByRecursion as All}
+use Rattle.std.specs.List.{AllByRecursion}
 use Rattle.std.proofs.lemmas.List.{at_drop_more, at_drop_all}
 use Rattle.std.proofs.lemmas.Bool.{and_parts, and_from}
 use Rattle.archive.specs.File.{multiplier_fits}
@@ -26,10 +26,10 @@ module _ {X : Type 0} (test : X → Bool) (xs : List X) (i : ℕ) (d : X) (found
 pub fit_all : {X : Type 0} (test : X → Bool) (xs : List X) (i : ℕ) (found : Bool) → length xs ≤ i → all_fit test (drop i xs) ≡ found → true ≡ found
 fit_all test xs i found h inv = sym (at_drop_all (all_fit test) xs i h) ∙ inv
 
-pub all_from_fit : {X : Type 0} (test : X → Bool) (xs : List X) → all_fit test xs ≡ true → All (λ x. test x ≡ true) xs
+pub all_from_fit : {X : Type 0} (test : X → Bool) (xs : List X) → all_fit test xs ≡ true → AllByRecursion (λ x. test x ≡ true) xs
 all_from_fit test [] e = tt
 all_from_fit test (x ∷ xs) e = let p = and_parts (test x) (all_fit test xs) e in (p.0, all_from_fit test xs p.1)
 
-pub fit_from_all : {X : Type 0} (test : X → Bool) (xs : List X) → All (λ x. test x ≡ true) xs → all_fit test xs ≡ true
+pub fit_from_all : {X : Type 0} (test : X → Bool) (xs : List X) → AllByRecursion (λ x. test x ≡ true) xs → all_fit test xs ≡ true
 fit_from_all test [] a = refl
 fit_from_all test (x ∷ xs) a = and_from (test x) (all_fit test xs) a.0 (fit_from_all test xs a.1)

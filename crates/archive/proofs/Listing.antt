@@ -2,7 +2,7 @@
 --     texts_push, bytes_push      one frame more at the end
 --     lists_none, lists_next, lists_all, lists_closed      a loop that writes them, and the call that leads on
 --     next_goes_on, list_goes_on  none of these calls is refused
-use Rattle.std.proofs.Common.{◌≡◌, ℕ, suc, ◌+◌, ◌*◌, ◌<◌, ◌≤◌, Bool, true, List, [], ◌∷◌, ◌++◌, length, get_or, take, is_ok, None, Ok, Result, sym, refl, ap, ◌∙◌, subst, mul-le-mul_left, mul-zero, mul_add, arith}
+use Rattle.std.proofs.Common.{◌≡◌, ℕ, suc, ◌+◌, ◌*◌, ◌<◌, ◌≤◌, Bool, true, List, [], ◌∷◌, ◌++◌, length, get_or, take, is_ok, None, Ok, Result, sym, refl, ap, ◌∙◌, subst, mul-le-mul_left, mul-zero, mul-add, arith}
 use Rattle.std.specs.List.{flat_map}
 use Rattle.std.proofs.lemmas.List.{flat_map_more, take_more, take_all, length-take-le, length_push}
 use Rattle.std.proofs.ByRecursion.{All-get_or}
@@ -29,7 +29,7 @@ module _ {X : Type 0} (text : ℕ → X → List ℕ) where
       ∙ ap (λ n. flat_map line (texts_from text 0 xs) ++ line (text n x)) (omega arith)
 
   longer : (width : ℕ) (xs : List X) (x : X) (i : ℕ) → i + width * length xs + width ≡ i + width * length (xs ++ (x ∷ []))
-  longer width xs x i = rw (length_push xs x) (omega (arith, mul_add width (length xs) 1))
+  longer width xs x i = rw (length_push xs x) (omega (arith, mul-add width (length xs) 1))
 
   -- before the first frame
   pub lists_none : (width : ℕ) (p : Progress) (a : List ℕ) → p.next ≡ 0 → p.at ≤ length a → Lists text width [] 0 p p a a
@@ -68,7 +68,7 @@ module _ {X : Type 0} (text : ℕ → X → List ℕ) where
         in_turn_from _ _ _
         (lt-ltb s.progress.next count' (omega arith))
         (and_from (fits 4 s.progress.next) (test x) (lt-ltb s.progress.next 65536 (omega arith)) this)
-        (le-leb (s.progress.at + width) (length b) (omega (arith, mul_add width i 1)))
+        (le-leb (s.progress.at + width) (length b) (omega (arith, mul-add width i 1)))
 
     module _ (x d : X) (count' : ℕ) (c : List ℕ) (r : Result (Unfinished S) (Refused (Unfinished S))) (h : i < length xs) (e : x ≡ get_or xs i d) (step : FrameStep text test width count' x s b c r) where
       -- the call that writes the next frame is not refused

@@ -2,7 +2,7 @@
 --     SoFar           what a run has written: bytes at the start of the place, and where it stands
 --     list_so_far      a run on one list adds the frames of that list
 --     every_run_writes the whole
-use Rattle.std.proofs.Common.{◌≡◌, ℕ, ◌+◌, Bool, true, List, [], ◌∷◌, ◌++◌, length, ℤ, Ok, Err, Result, sym, refl, ap, ◌∙◌, subst, append_assoc, arith}
+use Rattle.std.proofs.Common.{◌≡◌, ℕ, ◌+◌, Bool, List, ◌++◌, length, ℤ, Result, sym, ap, ◌∙◌, subst, append_assoc}
 use Rattle.std.specs.List.{flat_map}
 use Rattle.std.proofs.lemmas.List.{append-nil, length_push}
 use Rattle.kinds.specs.declared.reading.Reading.{Reading}
@@ -10,13 +10,12 @@ use Rattle.archive.specs.declared.figures.Head.{Head}
 use Rattle.archive.specs.declared.stages.AtEntries.{AtEntries}
 use Rattle.archive.specs.declared.stages.AtMultipliers.{AtMultipliers}
 use Rattle.archive.specs.declared.stages.AtReadings.{AtReadings}
-use Rattle.archive.specs.declared.stages.Ended.{Ended}
 use Rattle.archive.specs.declared.stages.Progress.{Progress}
 use Rattle.archive.specs.declared.stages.Refused.{Refused}
 use Rattle.archive.specs.declared.stages.Unfinished.{Unfinished}
-use Rattle.archive.specs.File.{Figures, edition, head_text, reading_text, entry_text, multiplier_text, end_text, reading_fits, entry_fits, multiplier_fits, texts_from, line, file}
-use Rattle.archive.specs.Writing.{Puts, FrameStep, opened, past_list}
-use Rattle.archive.specs.Runs.{List-run, starts, taken, refused, ReadingsRun, EntriesRun, MultipliersRun, WholeRun, EveryRunWrites}
+use Rattle.archive.specs.File.{edition, head_text, reading_text, entry_text, multiplier_text, end_text, reading_fits, entry_fits, multiplier_fits, texts_from, line}
+use Rattle.archive.specs.Writing.{Puts, FrameStep, past_list}
+use Rattle.archive.specs.Runs.{ListRun, starts, taken, refused, ReadingsRun, EntriesRun, MultipliersRun, EveryRunWrites}
 use Rattle.archive.proofs.Lengths.{file_pieces}
 use Rattle.archive.proofs.Listing.{bytes_push}
 use Rattle.archive.proofs.Pasting.{puts_more, puts_same}
@@ -38,7 +37,7 @@ module _ {S X : Type 0} (text : ℕ → X → List ℕ) (test : X → Bool) (wid
   abbrev Step : X → Unfinished S → List ℕ → List ℕ → Result (Unfinished S) (Refused (Unfinished S)) → Type 0
   Step x s a b r = FrameStep text test width (count s.progress) x s a b r
 
-  list_so_far : (s : Unfinished S) (a : List ℕ) (xs : List X) → List-run Starts Step s a xs → SoFar first (bytes ++ flat_map line (texts_from text 0 xs)) s.progress a (length xs)
+  list_so_far : (s : Unfinished S) (a : List ℕ) (xs : List X) → ListRun Starts Step s a xs → SoFar first (bytes ++ flat_map line (texts_from text 0 xs)) s.progress a (length xs)
   list_so_far _ _ _ (starts s a begun) =
       let start = begins s a begun in
       record { puts = puts_same (sym (append-nil bytes)) start.puts; next = start.next }

@@ -1,9 +1,9 @@
 -- A worked case of the file: the firing of three readings, and its 201 bytes.
---     reading, firing the three readings of weight 1
+--     reading, firing  the three readings of weight 1
 --     figures         of that firing, with the table 100, 105, 110 and the multiplier −1 over the denominator 2
 --     listed          the nine lines of their file, byte by byte; `ended` puts the end byte behind each
 -- `negsuc n` is the whole number n + 1 below 0, so −1 is `negsuc 0`.
-use Rattle.std.specs.Prelude.{ℕ, List, [], ◌∷◌, ◌++◌, ℤ, pos, negsuc}
+use Rattle.std.specs.Prelude.{ℕ, List, [], ◌∷◌, ◌++◌, pos, negsuc}
 use Rattle.kinds.specs.declared.reading.Reading.{Reading}
 use Rattle.archive.specs.File.{Figures}
 

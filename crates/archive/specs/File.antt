@@ -15,7 +15,7 @@
 use Rattle.std.specs.Prelude.{◌≡◌, ℕ, suc, ◌+◌, ◌*◌, ◌^◌, ◌≤◌, Bool, true, ◌&&◌, List, [], ◌∷◌, ◌++◌, length, ℤ, pos, negsuc, FitsSigned, int_le, nat_lt, unsigned_abs}
 use Rattle.std.specs.Int.{w32, w64}
 use Rattle.std.proofs.Common.{of_z}
-use Rattle.std.specs.List.{flat_map, AllByRecursion as All}
+use Rattle.std.specs.List.{flat_map, AllByRecursion}
 use Rattle.kinds.specs.declared.reading.Reading.{Reading}
 use Rattle.digits.specs.Fields.{field, Fits}
 use Rattle.archive.specs.declared.figures.Head.{Head}
@@ -93,9 +93,9 @@ multiplier_fits m = fits_signed m
 
 pub record Fitting (g : Figures) : Type 0 where
   pub head : head_fits g.head ≡ true
-  pub readings : All (λ r. reading_fits r ≡ true) g.readings
-  pub entries : All (λ v. entry_fits v ≡ true) g.entries
-  pub multipliers : All (λ m. multiplier_fits m ≡ true) g.multipliers
+  pub readings : AllByRecursion (λ r. reading_fits r ≡ true) g.readings
+  pub entries : AllByRecursion (λ v. entry_fits v ≡ true) g.entries
+  pub multipliers : AllByRecursion (λ m. multiplier_fits m ≡ true) g.multipliers
   pub cost : Fits 16 g.cost
   pub floor : FitsSigned w64 g.floor
   -- the head says how many readings there are, and there are as many entries

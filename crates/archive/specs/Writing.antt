@@ -12,7 +12,7 @@
 --     Steps             the answer of a call that writes a frame; Next says what its new stage is
 --     HeadStep, ReadingStep, EntryStep, MultiplierStep, EndStep      the answer of each call that writes a frame;
 --                       `FrameStep` is what those of a list share
---     ListStep         the answer of a call that leads on to the next list
+--     ListStep          the answer of a call that leads on to the next list
 --     all_fit           whether a test holds of a whole list
 --     Ready             that the frames of a list can be written: no call will be refused
 --     Lists             that the frames of a list are written, and that the place of the next frame is n

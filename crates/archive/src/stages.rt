@@ -13,29 +13,58 @@ pub struct Progress {
     pub(crate) next: usize,
 }
 
+// What a stage says of a file that is at it: whether the file may be let go.
+pub trait Stage {
+    ghost may_be_let_go: { Type 0 };
+}
+
 // Nothing is written yet.
 #[derive(Clone, Copy)]
 pub struct Opened;
+
+impl Stage for Opened {
+    ghost may_be_let_go = { ⊥ };
+}
 
 // The head is written, and some of the readings.
 #[derive(Clone, Copy)]
 pub struct AtReadings;
 
+impl Stage for AtReadings {
+    ghost may_be_let_go = { ⊥ };
+}
+
 #[derive(Clone, Copy)]
 pub struct AtEntries;
+
+impl Stage for AtEntries {
+    ghost may_be_let_go = { ⊥ };
+}
 
 #[derive(Clone, Copy)]
 pub struct AtMultipliers;
 
-// A file that has no end yet. It cannot be let go: it is led on, ended or scratched.
-pub struct Unfinished<S> {
+impl Stage for AtMultipliers {
+    ghost may_be_let_go = { ⊥ };
+}
+
+// The file is ended or scratched. No other module can lead a file here.
+#[derive(Clone, Copy)]
+struct Closed;
+
+impl Stage for Closed {
+    ghost may_be_let_go = { Unit {0} };
+}
+
+// A file that has no end yet. It cannot be let go before it is closed: it is led on, ended or scratched.
+pub struct Unfinished<S: Stage> {
     pub(crate) progress: Progress,
     stage: S,
 }
 
-impl<S: Drop> Drop for Unfinished<S> {
+impl<S: Drop + Stage> Drop for Unfinished<S> {
     fn drop(self)
-        requires { ⊥ }
+        requires { S.may_be_let_go }
     {
         let Unfinished {
             progress: _,
@@ -81,16 +110,17 @@ impl Unfinished<Opened> {
     }
 }
 
-impl<S: Drop> Unfinished<S> {
+impl<S: Drop + Stage> Unfinished<S> {
     // Gives the file up: the answer is how many bytes are written, and they stay.
     pub fn scratch(self) -> usize
         ensures { result ≡ self.progress.at }
     {
-        let Unfinished { progress, stage: _ } = self;
+        let progress = self.progress;
+        let _closed = self.led_on(progress, Closed);
         progress.at
     }
 
-    pub(crate) fn led_on<T>(self, progress: Progress, stage: T) -> Unfinished<T>
+    pub(crate) fn led_on<T: Stage>(self, progress: Progress, stage: T) -> Unfinished<T>
         ensures { result.progress ≡ progress }
     {
         let Unfinished {
@@ -101,7 +131,7 @@ impl<S: Drop> Unfinished<S> {
     }
 
     // Behind one more frame, which stops at `at`.
-    pub(crate) fn past_frame<T>(self, at: usize, stage: T) -> Unfinished<T>
+    pub(crate) fn past_frame<T: Stage>(self, at: usize, stage: T) -> Unfinished<T>
         requires { self.progress.next + 1 < 2 ^ 64 }
         ensures { result.progress ≡ moved_on self.progress at (self.progress.next + 1) }
     {
@@ -121,7 +151,7 @@ impl<S: Drop> Unfinished<S> {
     }
 
     // At the first frame of a list.
-    pub(crate) fn past_list<T>(self, stage: T) -> Unfinished<T>
+    pub(crate) fn past_list<T: Stage>(self, stage: T) -> Unfinished<T>
         ensures { result.progress ≡ past_list self.progress }
     {
         let Progress {
@@ -142,10 +172,8 @@ impl<S: Drop> Unfinished<S> {
     pub(crate) fn ended(self, bytes: usize) -> Ended
         ensures { result.bytes ≡ bytes }
     {
-        let Unfinished {
-            progress: _,
-            stage: _,
-        } = self;
+        let progress = self.progress;
+        let _closed = self.led_on(progress, Closed);
         Ended { bytes }
     }
 }

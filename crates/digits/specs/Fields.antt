@@ -7,7 +7,7 @@
 --     Number          that bytes, at most 16, are the field of a number
 --     Reads           the number that bytes write: none for more than 16 bytes or for bytes that are not all digits
 use Rattle.std.specs.Prelude.{◌≡◌, ℕ, zero, suc, ◌+◌, ◌/◌, ◌%◌, ◌^◌, ◌<◌, ◌≤◌, Bool, true, cond, ◌&&◌, ◌||◌, List, [], ◌∷◌, ◌++◌, length, Some, None, Option, nat_le, nat_lt}
-use Rattle.std.specs.List.{AllByRecursion as All}
+use Rattle.std.specs.List.{AllByRecursion}
 
 abbrev pub digit : ℕ → ℕ
 digit d = cond (nat_lt d 10) (48 + d) (55 + d)
@@ -16,7 +16,7 @@ abbrev pub is_digit : ℕ → Bool
 is_digit b = (nat_le 48 b && nat_lt b 58) || (nat_le 65 b && nat_lt b 71)
 
 abbrev pub Digits : List ℕ → Type 0
-Digits bs = All (λ b. is_digit b ≡ true) bs
+Digits bs = AllByRecursion (λ b. is_digit b ≡ true) bs
 
 abbrev pub Fits : ℕ → ℕ → Type 0
 Fits width x = x < 16 ^ width

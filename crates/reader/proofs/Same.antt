@@ -4,7 +4,7 @@
 use Rattle.std.proofs.Common.{◌≡◌, ℕ, suc, ◌+◌, ◌-◌, ◌<◌, ◌≤◌, true, ◌&&◌, List, [], ◌∷◌, ◌++◌, length, get_or, drop, ℤ, pos, negsuc, nat_abs, ◌≤ℤ◌, Option, sym, refl, ap, ◌∙◌, subst, ⊎_elim, arith, w32, w64, SFits, to_z, of_z}
 use lib.Signed.{le_z}
 use mir.Facts.{Fits-of_z}
-use Rattle.std.specs.List.{AllByRecursion as All}
+use Rattle.std.specs.List.{AllByRecursion}
 use Rattle.std.proofs.ByRecursion.{All-get_or}
 use Rattle.std.proofs.lemmas.List.{ext_get_or}
 use Rattle.std.proofs.lemmas.Int.{to_z-of_z, ints}
@@ -136,7 +136,7 @@ end_one c d x y f g a b e =
 
 -- lists whose elements are written alike are alike
 lists_same : {X : Type 0} (text : ℕ → X → List ℕ) (fit : X → Type 0) (d : X) → ((k : ℕ) (x y : X) → fit x → fit y → text k x ≡ text k y → x ≡ y)
-    → (xs ys : List X) → All fit xs → All fit ys → length xs ≡ length ys → ((k : ℕ) → k < length xs → text k (get_or xs k d) ≡ text k (get_or ys k d)) → xs ≡ ys
+    → (xs ys : List X) → AllByRecursion fit xs → AllByRecursion fit ys → length xs ≡ length ys → ((k : ℕ) → k < length xs → text k (get_or xs k d) ≡ text k (get_or ys k d)) → xs ≡ ys
 lists_same text fit d one xs ys a b e h =
     ext_get_or d xs ys e (λ k lt. one k (get_or xs k d) (get_or ys k d) (All-get_or fit xs k d lt a) (All-get_or fit ys k d (omega (arith, lt, e)) b) (h k lt))
 

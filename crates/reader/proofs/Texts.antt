@@ -6,7 +6,7 @@
 --     pieces_file     a file falls into its lines
 --     rejoin          bytes are their pieces with an end byte between
 use Rattle.std.proofs.Common.{◌≡◌, ℕ, zero, suc, ◌+◌, ◌-◌, ◌<◌, ◌≤◌, true, false, cond, eqb, ltb, ◌⊎◌, List, [], ◌∷◌, ◌++◌, length, get_or, take, drop, ℤ, pos, nat_abs, sym, refl, ap, ◌∙◌, subst, inl, inr, ⊎_elim, append_assoc, arith, length-append, w32, w64, of_z}
-use Rattle.std.specs.List.{flat_map, AllByRecursion as All}
+use Rattle.std.specs.List.{flat_map, AllByRecursion}
 use Rattle.std.proofs.ByRecursion.{All-append, All-get_or, All-from_get_or}
 use Rattle.std.proofs.lemmas.List.{take_at, get_or_append_left, get_or-append_right}
 use Rattle.std.proofs.lemmas.Bool.{lt-ltb, le-ltb, cases_lt, eqb-true, ne_eqb, cases_Bool}
@@ -225,7 +225,7 @@ stage_behind n m j e = subst Behind e (⊎_elim (λ lt. go (group_of n m j (omeg
 
 -- all lines of a file are good, and it falls into them
 module _ (g : Figures) (n m : ℕ) (readings : length g.readings ≡ n) (entries : length g.entries ≡ n) (multipliers : length g.multipliers ≡ m) where
-  texts_good : All Good (texts g)
+  texts_good : AllByRecursion Good (texts g)
   texts_good = All-from_get_or Good (texts g) [] go
     where
       go : (i : ℕ) → i < length (texts g) → Good (get_or (texts g) i [])
@@ -237,7 +237,7 @@ module _ (g : Figures) (n m : ℕ) (readings : length g.readings ≡ n) (entries
   pub pieces_file : pieces (file g) ≡ texts g ++ ([] ∷ [])
   pieces_file = pieces_lines (texts g) texts_good
     where
-      pieces_lines : (ls : List (List ℕ)) → All Good ls → pieces (flat_map line ls) ≡ ls ++ ([] ∷ [])
+      pieces_lines : (ls : List (List ℕ)) → AllByRecursion Good ls → pieces (flat_map line ls) ≡ ls ++ ([] ∷ [])
       pieces_lines [] h = pieces_last [] (λ k lt _. absurd (omega arith))
       pieces_lines (l ∷ ls) h =
           ap pieces (append_assoc l (10 ∷ []) (flat_map line ls)) ∙ pieces_line l (flat_map line ls) (good_no_end l h.0) ∙ ap (λ x. l ∷ x) (pieces_lines ls h.1)

@@ -6,7 +6,7 @@
 --     FirstBroken    that a fault names the first broken line
 use Rattle.std.specs.Prelude.{◌≡◌, ℕ, suc, ◌+◌, ◌<◌, Bool, true, ◌||◌, ◌⊎◌, List, [], ◌∷◌, ◌++◌, length, Some, None, Ok, Err, Option, Result, ◌==◌, ◌≢◌, slice_index_or}
 use Rattle.std.specs.Borrow.{Bor}
-use Rattle.std.specs.List.{AllByRecursion as All}
+use Rattle.std.specs.List.{AllByRecursion}
 use Rattle.digits.specs.Fields.{is_digit}
 use Rattle.kinds.specs.declared.refusal.Cause.TheVariants.{Line}
 use Rattle.reader.specs.declared.fault.Fault.{Fault}
@@ -18,7 +18,7 @@ abbrev pub is_known : ℕ → Bool
 is_known b = is_digit b || b == 10
 
 abbrev pub Known : List ℕ → Type 0
-Known bs = All (λ b. is_known b ≡ true) bs
+Known bs = AllByRecursion (λ b. is_known b ≡ true) bs
 
 abbrev pub BadStart : List ℕ → Type 0
 BadStart s =

@@ -21,7 +21,7 @@ loop-entry-preserved c =
     lists_next entry_text c.loop-entry.stage c.requires c.loop-entry.entry-index c.loop-entry.invariant (to_z w64 (of_z w64 (get_or c.args.entries.now c.loop-entry.entry-index (pos 0)))) (pos 0) c.loop-entry.stage.progress.readings c.entry.new.place c.entry.result c.loop-entry-test.true (to_z-of_z w64 (get_or c.args.entries.now c.loop-entry.entry-index (pos 0)) fits) c.entry.ensures c.unwrap-stage.result c.unwrap-stage.ensures
 
 pub unwrap-requires : goal.unwrap-requires
-unwrap-requires c = list_goes_on entry_text c.loop-entry.stage c.requires c.loop-entry.entry-index c.loop-entry.invariant c.begin-multipliers.result c.loop-entry-test.false c.begin-multipliers.ensures c.loop-entry.auto.entry-index-end refl
+unwrap-requires c = list_goes_on entry_text c.loop-entry.stage c.requires c.loop-entry.entry-index c.loop-entry.invariant c.begin_multipliers.result c.loop-entry-test.false c.begin_multipliers.ensures c.loop-entry.auto.entry-index-end refl
 
 pub returns : goal.returns
-returns c = lists_closed entry_text c.loop-entry.stage c.requires c.loop-entry.entry-index c.loop-entry.invariant c.begin-multipliers.result c.loop-entry-test.false c.begin-multipliers.ensures c.unwrap.result c.unwrap.ensures
+returns c = lists_closed entry_text c.loop-entry.stage c.requires c.loop-entry.entry-index c.loop-entry.invariant c.begin_multipliers.result c.loop-entry-test.false c.begin_multipliers.ensures c.unwrap.result c.unwrap.ensures

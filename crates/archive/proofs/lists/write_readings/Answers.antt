@@ -18,7 +18,7 @@ loop-reading-preserved c =
     lists_next reading_text c.loop-reading.stage c.requires c.loop-reading.reading-index c.loop-reading.invariant _ _ c.loop-reading.stage.progress.readings c.reading.new.place c.reading.result c.loop-reading-test.true refl c.reading.ensures c.unwrap-stage.result c.unwrap-stage.ensures
 
 pub unwrap-requires : goal.unwrap-requires
-unwrap-requires c = list_goes_on reading_text c.loop-reading.stage c.requires c.loop-reading.reading-index c.loop-reading.invariant c.begin-entries.result c.loop-reading-test.false c.begin-entries.ensures c.loop-reading.auto.reading-index-end refl
+unwrap-requires c = list_goes_on reading_text c.loop-reading.stage c.requires c.loop-reading.reading-index c.loop-reading.invariant c.begin_entries.result c.loop-reading-test.false c.begin_entries.ensures c.loop-reading.auto.reading-index-end refl
 
 pub returns : goal.returns
-returns c = lists_closed reading_text c.loop-reading.stage c.requires c.loop-reading.reading-index c.loop-reading.invariant c.begin-entries.result c.loop-reading-test.false c.begin-entries.ensures c.unwrap.result c.unwrap.ensures
+returns c = lists_closed reading_text c.loop-reading.stage c.requires c.loop-reading.reading-index c.loop-reading.invariant c.begin_entries.result c.loop-reading-test.false c.begin_entries.ensures c.unwrap.result c.unwrap.ensures

@@ -9,6 +9,6 @@ pub returns : goal.returns
 unfolding entry_text field
 returns c =
     let fits = c.ranges.value in
-    let value = puts_same (ap (field 4) (simp to_z-of_z at c.unsigned-abs.ensures.value)) c.put-field-at-3.ensures.puts in
-    let text = puts_more c.put-field-at.ensures.puts (puts_more c.put-field-at-2.ensures.puts value) in
-    record { puts = puts_more text c.put-end-byte.ensures.puts; stops = omega arith }
+    let value = puts_same (ap (field 4) (simp to_z-of_z at c.unsigned_abs.ensures.value)) c.put_field-at-3.ensures.puts in
+    let text = puts_more c.put_field-at.ensures.puts (puts_more c.put_field-at-2.ensures.puts value) in
+    record { puts = puts_more text c.put_end_byte.ensures.puts; stops = omega arith }

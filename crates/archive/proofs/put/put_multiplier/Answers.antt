@@ -11,6 +11,6 @@ unfolding multiplier_text field
 returns c =
     let fits = c.ranges.value in
     let small = signed_fits c.args.value c.requires.fits in
-    let value = puts_same (ap (field 8) (simp to_z-of_z at c.cast-unsigned.ensures)) c.put-field-at-3.ensures.puts in
-    let text = puts_more c.put-field-at.ensures.puts (puts_more c.put-field-at-2.ensures.puts value) in
-    record { puts = puts_more text c.put-end-byte.ensures.puts; stops = omega arith }
+    let value = puts_same (ap (field 8) (simp to_z-of_z at c.cast_unsigned.ensures)) c.put_field-at-3.ensures.puts in
+    let text = puts_more c.put_field-at.ensures.puts (puts_more c.put_field-at-2.ensures.puts value) in
+    record { puts = puts_more text c.put_end_byte.ensures.puts; stops = omega arith }
