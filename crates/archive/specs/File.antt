@@ -11,7 +11,7 @@
 --     Fitting         that all figures of a file fit their fields, and that the counts are right
 --     file_length     how long a file of n readings and m multipliers is
 -- Signed figures are written as two's complement: `of_z w32` and `of_z w64` are the remainder by 2^32 and by 2^64. A figure
--- without a sign is no negative number if it fits, so `nat_abs` takes nothing away from it.
+-- without a sign is no negative number if it fits, so `unsigned_abs` takes nothing away from it.
 use Rattle.std.specs.Prelude.{◌≡◌, ℕ, suc, ◌+◌, ◌*◌, ◌^◌, ◌≤◌, Bool, true, ◌&&◌, List, [], ◌∷◌, ◌++◌, length, ℤ, pos, negsuc, FitsSigned, int_le, nat_lt, unsigned_abs}
 use Rattle.std.specs.Int.{w32, w64}
 use Rattle.std.proofs.Common.{of_z}

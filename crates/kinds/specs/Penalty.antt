@@ -5,7 +5,7 @@
 --     is_weight, is_denominator, is_residual, is_slope     whether a figure is within the limits of an answer
 --     cost_answer, allows_answer, touch_answer     what a kind answers: its meaning within the limits, and none outside
 -- Weights and denominators of the laws are naturals; an answer is given for weights from 0 and denominators from 1, so
--- `nat_abs` takes nothing away there.
+-- `unsigned_abs` takes nothing away there.
 use Rattle.std.specs.Prelude.{◌≡◌, ℕ, ◌*◌, ◌≤◌, Bool, true, cond, ◌&&◌, ℤ, pos, ◌*ℤ◌, ◌≤ℤ◌, Some, None, Option, int_le, nat_le, unsigned_abs}
 
 pub record PenaltyMeaning : Type 0 where
