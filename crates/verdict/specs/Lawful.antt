@@ -4,7 +4,7 @@
 --     Filed           that bytes are the file of lawful figures
 --     NearTheBest   that no list of whole numbers with as many entries undercuts the stated cost by more than the allowance
 use Rattle.std.specs.Prelude.{◌≡◌, ℕ, ◌+◌, ◌<◌, ◌≤◌, true, List, length, ℤ, pos, Some, None, Option}
-use Rattle.std.specs.List.{AllByRecursion as All}
+use Rattle.std.specs.List.{AllByRecursion}
 use Rattle.kinds.specs.Roughness.{told_reach}
 use Rattle.objective.specs.Checks.{is_allowance, is_value, kinds_no}
 use Rattle.objective.specs.Objective.{KindsMeaning, LawfulMultipliers, cost_of, floor_of, within}
@@ -29,7 +29,7 @@ pub record Lawful (k : KindsMeaning) (g : Figures) : Type 0 where
   pub given : Given (pos g.head.stiffness) g.readings (pos g.head.denominator)
   pub allowance : is_allowance (pos g.head.allowance) ≡ true
   pub reaches : k.roughness.reach < length g.readings
-  pub values : All (λ v. is_value v ≡ true) g.entries
+  pub values : AllByRecursion (λ v. is_value v ≡ true) g.entries
   pub multipliers : LawfulMultipliers k g.head.stiffness g.head.denominator g.readings g.multipliers
   pub cost : g.cost ≡ cost_of k g.head.stiffness g.readings g.entries
   pub floor : g.floor ≡ floor_of k g.readings g.multipliers
