@@ -2,9 +2,8 @@
 --     cut_same        lists of which the fronts are equally long are the same part by part
 --     fields_same     the same for a field in front
 --     head_one        no two heads have one line
-use Rattle.std.proofs.Common.{◌≡◌, ℕ, ◌^◌, ◌<◌, true, ltb, List, [], ◌∷◌, ◌++◌, length, take, drop, sym, refl, ap, ◌∙◌, arith}
+use Rattle.std.proofs.Common.{◌≡◌, ℕ, true, List, ◌++◌, length, take, drop, sym, ap, ◌∙◌, arith}
 use Rattle.std.proofs.lemmas.List.{take_at, drop_at}
-use Rattle.std.proofs.lemmas.Bool.{ltb-true}
 use Rattle.digits.specs.Fields.{field, Fits}
 use Rattle.digits.proofs.Fields.{field_length, field_same}
 use Rattle.archive.specs.declared.figures.Head.{Head}

@@ -1,25 +1,25 @@
 -- Lines that the machine keeps, and lines that it refuses.
-use Rattle.std.proofs.Common.{◌≡◌, ℕ, zero, suc, ◌+◌, ◌-◌, ◌^◌, ◌<◌, ◌≤◌, Bool, true, false, ◌&&◌, ltb, List, [], ◌∷◌, ◌++◌, length, get_or, take, drop, set, ℤ, pos, nat_abs, sym, refl, ap, ◌∙◌, subst, ⊎_elim, arith, length-take, w64, SFits, to_z, of_z}
+use Rattle.std.proofs.Common.{◌≡◌, ℕ, ◌+◌, ◌^◌, ◌<◌, ◌≤◌, true, ltb, List, ◌∷◌, ◌++◌, length, get_or, take, drop, set, ℤ, pos, nat_abs, sym, refl, ap, ◌∙◌, subst, ⊎_elim, arith, length-take, w64, SFits, to_z, of_z}
 use lib.Signed.{le_z}
-use Rattle.std.proofs.lemmas.List.{take_at, get_or-take, get_or-set_same, get_or-set_other, get_or_past, places}
+use Rattle.std.proofs.lemmas.List.{take_at, get_or-take, get_or-set_same, get_or-set_other, get_or_past}
 use Rattle.std.proofs.lemmas.Int.{to_z-of_z}
 use Rattle.std.proofs.lemmas.Bool.{lt-ltb, cases_lt}
-use Rattle.kinds.specs.declared.reading.Reading.{Reading as Noted-reading}
-use Rattle.digits.specs.Fields.{field, Fits, Number}
+use Rattle.kinds.specs.declared.reading.Reading.{Reading as NotedReading}
+use Rattle.digits.specs.Fields.{field, Number}
 use Rattle.digits.proofs.Fields.{field_length, number_is, number_written}
 use Rattle.archive.specs.File.{Figures, head_text, reading_text, entry_text, multiplier_text, end_text, edition, fits_unsigned, head_fits, reading_fits, entry_fits, multiplier_fits}
 use Rattle.reader.specs.declared.contents.Contents.{Contents}
 use Rattle.reader.specs.declared.machine.Machine.{Machine}
 use Rattle.reader.specs.declared.stage.Stage.{Stage}
 use Rattle.reader.specs.declared.stage.Stage.TheVariants.{Head, Reading, Entry, Multiplier, End, Nothing}
-use Rattle.archive.specs.declared.figures.Head.{Head as Stated-head}
+use Rattle.archive.specs.declared.figures.Head.{Head as StatedHead}
 use Rattle.reader.specs.Frames.{stage_at, HeadIs}
 use Rattle.reader.specs.Heads.{HeadRead}
 use Rattle.reader.specs.Readable.{figures_of}
-use Rattle.reader.specs.declared.frames.Frame.TheVariants.{Head as Head-frame}
+use Rattle.reader.specs.declared.frames.Frame.TheVariants.{Head as HeadFrame}
 use Rattle.reader.specs.declared.frames.HeadFields.{HeadFields}
 use Rattle.reader.specs.Shapes.{Field, frame_text, HeadShaped}
-use Rattle.reader.specs.Steps.{no_reading, text_of, fits_of, Put, Running, LineTaken}
+use Rattle.reader.specs.Steps.{no_reading, text_of, fits_of, Put, LineTaken}
 
 -- what a stage says of the lines that were taken
 pub at_reading : (n m j k : ℕ) → Reading k ≡ stage_at n m j → (j ≡ k) × (k < n)
@@ -56,7 +56,7 @@ fits_read w s z f r sign =
     rw (sign, small)
 
 -- a reading that was stored is the one that was read
-pub stored : (t c w : ℤ) → SFits w64 t → SFits w64 c → SFits w64 w → ◌≡◌ {A = Noted-reading} (record { minute = to_z w64 (of_z w64 t); crude = to_z w64 (of_z w64 c); weight = to_z w64 (of_z w64 w) }) (record { minute = t; crude = c; weight = w })
+pub stored : (t c w : ℤ) → SFits w64 t → SFits w64 c → SFits w64 w → ◌≡◌ {A = NotedReading} (record { minute = to_z w64 (of_z w64 t); crude = to_z w64 (of_z w64 c); weight = to_z w64 (of_z w64 w) }) (record { minute = t; crude = c; weight = w })
 stored t c w a b d =
     ap (λ z. record { minute = z; crude = to_z w64 (of_z w64 c); weight = to_z w64 (of_z w64 w) }) (to_z-of_z w64 t a)
     ∙ ap (λ z. record { minute = t; crude = z; weight = to_z w64 (of_z w64 w) }) (to_z-of_z w64 c b)
@@ -110,7 +110,7 @@ module _ (c c' : Contents) (h : SameHead c c') (k : ℕ) (l : List ℕ) where
   n_same : c'.head.readings ≡ c.head.readings
   n_same = ap (λ x. x.readings) h.head
 
-  pub put_reading : (r : Noted-reading) → c'.readings ≡ set c.readings k r → c'.entries ≡ c.entries → c'.multipliers ≡ c.multipliers → (c'.cost ≡ c.cost) × (c'.floor ≡ c.floor)
+  pub put_reading : (r : NotedReading) → c'.readings ≡ set c.readings k r → c'.entries ≡ c.entries → c'.multipliers ≡ c.multipliers → (c'.cost ≡ c.cost) × (c'.floor ≡ c.floor)
       → k < c.head.readings → k < length c.readings → reading_text k r ≡ l → reading_fits r ≡ true → Put (Reading k) l (figures_of c) (figures_of c')
   put_reading r rs es ms end lt size text fit =
       let here = part_here c.head.readings c'.head.readings n_same c.readings c'.readings no_reading k r rs lt size in
@@ -169,7 +169,7 @@ kept l m m' s stage h put more taken next =
     }
 
 -- fields that were read are the head of the numbers that they write
-pub head_is : (f : HeadFields) (e : ℕ) (h : Stated-head) → HeadShaped f → Number f.edition.now e → HeadRead f h → HeadIs (frame_text (Head-frame f)) e h
+pub head_is : (f : HeadFields) (e : ℕ) (h : StatedHead) → HeadShaped f → Number f.edition.now e → HeadRead f h → HeadIs (frame_text (HeadFrame f)) e h
 unfolding head_text
 head_is f e h s n r =
     let a = number_written 2 f.edition.now e s.edition_field.sized n in

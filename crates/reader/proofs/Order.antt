@@ -5,9 +5,8 @@
 --     taken           one line more is taken
 --     refused, odd    a line that the machine refuses, that is no frame, or that is missing: the first fault
 --     all_read        nothing is left, and nothing is waited for: the bytes are the file of the figures
-use Rattle.std.proofs.Common.{◌≡◌, ℕ, zero, suc, ◌+◌, ◌-◌, ◌<◌, ◌≤◌, true, ◌&&◌, ◌⊎◌, List, [], ◌∷◌, ◌++◌, length, get_or, take, ℤ, pos, negsuc, ◌≤ℤ◌, Some, None, Ok, Err, Option, sym, refl, ap, ◌∙◌, subst, inl, inr, ⊎_elim, arith, length-append, w64, SFits, Bor}
+use Rattle.std.proofs.Common.{◌≡◌, ℕ, zero, suc, ◌+◌, ◌-◌, ◌<◌, ◌≤◌, true, ◌&&◌, List, [], ◌∷◌, ◌++◌, length, get_or, ℤ, pos, negsuc, ◌≤ℤ◌, Some, None, Ok, Err, Option, sym, refl, ap, ◌∙◌, subst, inl, inr, ⊎_elim, arith, length-append, w64, SFits, Bor}
 use lib.Signed.{le_z}
-use Rattle.std.specs.List.{AllByRecursion}
 use Rattle.std.proofs.ByRecursion.{All-from_get_or}
 use Rattle.std.proofs.lemmas.List.{length-take-le, get_or_append_left, get_or_at, ext_get_or}
 use Rattle.std.proofs.lemmas.Int.{ints}
@@ -15,9 +14,8 @@ use Rattle.std.proofs.lemmas.Bool.{cases_lt}
 use Rattle.kinds.specs.declared.refusal.Cause.{Cause}
 use Rattle.kinds.specs.declared.refusal.Cause.TheVariants.{Frame, Mark, Full, Short}
 use Rattle.digits.specs.Fields.{Fits}
-use Rattle.archive.specs.declared.figures.Head.{Head as Stated-head}
-use Rattle.archive.specs.File.{Figures, Fitting, edition, texts, file, head_fits, reading_fits, entry_fits, multiplier_fits}
-use Rattle.reader.specs.declared.contents.Contents.{Contents}
+use Rattle.archive.specs.declared.figures.Head.{Head as StatedHead}
+use Rattle.archive.specs.File.{Figures, Fitting, edition, texts, file, reading_fits, entry_fits, multiplier_fits}
 use Rattle.reader.specs.declared.contents.Wanted.{Wanted}
 use Rattle.reader.specs.declared.fault.Fault.{Fault}
 use Rattle.reader.specs.declared.lines.Lines.{Lines}
@@ -27,10 +25,9 @@ use Rattle.reader.specs.declared.stage.Stage.TheVariants.{Head, Reading, Entry, 
 use Rattle.reader.specs.Faults.{fault}
 use Rattle.reader.specs.Lines.{Good, pieces}
 use Rattle.reader.specs.Turns.{Known, Next}
-use Rattle.reader.specs.Frames.{stage_at, InTurn, HeadIs, Agrees, Like, reach_of, Disorder, headless, unlike, many, short, misplaced}
-use Rattle.reader.specs.Order.{First-disorder}
+use Rattle.reader.specs.Frames.{stage_at, InTurn, HeadIs, Agrees, reach_of, Disorder, headless, unlike, many, short, misplaced}
+use Rattle.reader.specs.Order.{FirstDisorder}
 use Rattle.reader.specs.Readable.{figures_of, InForm}
-use Rattle.reader.specs.Shapes.{NoFrame}
 use Rattle.reader.specs.Steps.{no_reading, text_of, fits_of, Running, Steady, SteadyAt, HeadTaken, HeadOff, HeadRefused, LineTaken, Stepped, SteppedAt}
 use Rattle.reader.proofs.Cuts.{Upto, known_rest, upto_line, upto_more, upto_past, upto_count}
 use Rattle.reader.proofs.Heads.{head_one}
@@ -89,7 +86,7 @@ module _ (w : Option Wanted) (ls : List (List ℕ)) (t : ℕ) (m : Machine) wher
       bad (subst (InTurn (stage_at h.readings (h.readings - reach_of w) j)) here (subst (λ z. InTurn z (text_of (figures_of m.contents) (stage_at m.contents.head.readings m.contents.count j))) s (text_in_turn (figures_of m.contents) (stage_at m.contents.head.readings m.contents.count j))))
 
   -- a fault in the line behind those that were taken is the first
-  first_at : Past w ls t m → (f : Fault) → f ≡ fault 2 Frame (t + 1) → (InTurn m.stage (get_or ls t []) → ⊥) → First-disorder w ls f
+  first_at : Past w ls t m → (f : Fault) → f ≡ fault 2 Frame (t + 1) → (InTurn m.stage (get_or ls t []) → ⊥) → FirstDisorder w ls f
   first_at a f is bad = record {
     line = suc (suc m.taken);
     turn = 0;
@@ -105,7 +102,7 @@ module _ (w : Option Wanted) (ls : List (List ℕ)) (t : ℕ) (m : Machine) wher
       s : m.stage ≡ stage_at m.contents.head.readings (m.contents.head.readings - reach_of w) m.taken
       s = a.running.waits ∙ ap (λ k. stage_at m.contents.head.readings k m.taken) a.count
 
-  headless_at : t ≡ 0 → (f : Fault) → f ≡ fault 2 Frame (t + 1) → (InTurn Head (get_or ls t []) → ⊥) → First-disorder w ls f
+  headless_at : t ≡ 0 → (f : Fault) → f ≡ fault 2 Frame (t + 1) → (InTurn Head (get_or ls t []) → ⊥) → FirstDisorder w ls f
   headless_at z f is bad = record {
     line = 1;
     turn = 0;
@@ -122,7 +119,7 @@ module _ (w : Option Wanted) (ls : List (List ℕ)) (t : ℕ) (m : Machine) wher
       least l u c (short i less) lt = omega arith
       least l u c (misplaced i bad) lt = omega arith
 
-  odd_at : (s : Stage) → m.stage ≡ s → ReachedAt w ls t m s → (f : Fault) → f ≡ fault 2 Frame (t + 1) → (InTurn s (get_or ls t []) → ⊥) → First-disorder w ls f
+  odd_at : (s : Stage) → m.stage ≡ s → ReachedAt w ls t m s → (f : Fault) → f ≡ fault 2 Frame (t + 1) → (InTurn s (get_or ls t []) → ⊥) → FirstDisorder w ls f
   odd_at Head e a f is bad = headless_at a f is bad
   odd_at (Reading k) e a f is bad = first_at a f is (λ o. bad (subst (λ z. InTurn z (get_or ls t [])) e o))
   odd_at (Entry k) e a f is bad = first_at a f is (λ o. bad (subst (λ z. InTurn z (get_or ls t [])) e o))
@@ -131,13 +128,13 @@ module _ (w : Option Wanted) (ls : List (List ℕ)) (t : ℕ) (m : Machine) wher
   odd_at Nothing e a f is bad = first_at a f is (λ o. bad (subst (λ z. InTurn z (get_or ls t [])) e o))
 
   -- a line that is not what the machine waits for
-  pub odd : Reached w ls t m → (f : Fault) → f ≡ fault 2 Frame (t + 1) → (InTurn m.stage (get_or ls t []) → ⊥) → First-disorder w ls f
+  pub odd : Reached w ls t m → (f : Fault) → f ≡ fault 2 Frame (t + 1) → (InTurn m.stage (get_or ls t []) → ⊥) → FirstDisorder w ls f
   odd a f is bad = odd_at m.stage refl a f is bad
 
 -- a head that is refused
 module _ (w : Option Wanted) (ls : List (List ℕ)) (f : Fault) where
-  first_turn : (e : ℕ) (h : Stated-head) → HeadIs (get_or ls 0 []) e h → (u : ℕ) (c : Cause) → f ≡ fault 2 c 1 → Disorder w ls 1 u c
-      → ((l v : ℕ) (d : Cause) → Disorder w ls l v d → l ≡ 1 → v < u → ⊥) → First-disorder w ls f
+  first_turn : (e : ℕ) (h : StatedHead) → HeadIs (get_or ls 0 []) e h → (u : ℕ) (c : Cause) → f ≡ fault 2 c 1 → Disorder w ls 1 u c
+      → ((l v : ℕ) (d : Cause) → Disorder w ls l v d → l ≡ 1 → v < u → ⊥) → FirstDisorder w ls f
   first_turn e h i u c is has none = record {
     line = 1;
     turn = u;
@@ -154,7 +151,7 @@ module _ (w : Option Wanted) (ls : List (List ℕ)) (f : Fault) where
       low l v d (short i less) lt = omega arith
       low l v d (misplaced i bad) lt = omega arith
 
-  pub off : (e : ℕ) (h : Stated-head) → HeadIs (get_or ls 0 []) e h → HeadOff w e h 1 f → First-disorder w ls f
+  pub off : (e : ℕ) (h : StatedHead) → HeadIs (get_or ls 0 []) e h → HeadOff w e h 1 f → FirstDisorder w ls f
   off e h i (inl x) = first_turn e h i 1 Mark x.0 (unlike i x.1) none
     where
       none : (l v : ℕ) (d : Cause) → Disorder w ls l v d → l ≡ 1 → v < 1 → ⊥
@@ -194,16 +191,16 @@ past_reached w ls t m a = go m.stage refl
 
 -- one step of the machine, at a line
 module _ (w : Option Wanted) (ls : List (List ℕ)) (t : ℕ) (m m' : Machine) (l : List ℕ) (here : get_or ls t [] ≡ l) where
-  line_refused : Past w ls t m → (f : Fault) → (f ≡ fault 2 Frame (t + 1)) × (InTurn m.stage l → ⊥) → First-disorder w ls f
+  line_refused : Past w ls t m → (f : Fault) → (f ≡ fault 2 Frame (t + 1)) × (InTurn m.stage l → ⊥) → FirstDisorder w ls f
   line_refused a f x = first_at w ls t m a f x.0 (λ o. x.1 (subst (InTurn m.stage) here o))
 
-  head_refused : t ≡ 0 → (f : Fault) → HeadRefused w l (t + 1) f → First-disorder w ls f
+  head_refused : t ≡ 0 → (f : Fault) → HeadRefused w l (t + 1) f → FirstDisorder w ls f
   head_refused z f (inl x) = headless_at w ls t m z f x.0 (λ o. x.1 (subst (InTurn Head) here o))
   head_refused z f (inr x) =
       let first : get_or ls 0 [] ≡ l = ap (λ i. get_or ls i []) (sym z) ∙ here in
       off w ls f x.0 x.1 (subst (λ y. HeadIs y x.0 x.1) (sym first) x.2) (subst (λ i. HeadOff w x.0 x.1 (i + 1) f) z x.3)
 
-  refused_at : (s : Stage) → ReachedAt w ls t m s → (f : Fault) → SteppedAt w l (t + 1) m m' s (Err f) → First-disorder w ls f
+  refused_at : (s : Stage) → ReachedAt w ls t m s → (f : Fault) → SteppedAt w l (t + 1) m m' s (Err f) → FirstDisorder w ls f
   refused_at Head a f x = head_refused a f x
   refused_at (Reading k) a f x = line_refused a f x
   refused_at (Entry k) a f x = line_refused a f x
@@ -211,7 +208,7 @@ module _ (w : Option Wanted) (ls : List (List ℕ)) (t : ℕ) (m m' : Machine) (
   refused_at End a f x = line_refused a f x
   refused_at Nothing a f x = line_refused a f x
 
-  pub refused : Reached w ls t m → (f : Fault) → Stepped w l (t + 1) m m' (Err f) → First-disorder w ls f
+  pub refused : Reached w ls t m → (f : Fault) → Stepped w l (t + 1) m m' (Err f) → FirstDisorder w ls f
   refused a f x = refused_at m.stage a f x
 
   head_taken : t ≡ 0 → HeadTaken w l m' → Past w ls (t + 1) m'
@@ -357,7 +354,7 @@ turned bs a b o l u n e =
 
 -- nothing is left: no line stands where the machine waits for one
 pub missing : (w : Option Wanted) (bs : List ℕ) (a b : Lines) (o : Option (Bor (List ℕ))) (m : Machine) (f : Fault) → Upto bs a.rest.now a.taken → Next a b (Ok o) → o ≡ None
-    → Reached w (pieces bs) a.taken m → (InTurn m.stage [] → ⊥) → f ≡ fault 2 Frame (b.taken + 1) → First-disorder w (pieces bs) f
+    → Reached w (pieces bs) a.taken m → (InTurn m.stage [] → ⊥) → f ≡ fault 2 Frame (b.taken + 1) → FirstDisorder w (pieces bs) f
 missing w bs a b o m f u n e r bad is =
     let x : Next a b (Ok None) = subst (λ y. Next a b (Ok y)) e n in
     odd w (pieces bs) a.taken m r f (is ∙ ap (λ y. fault 2 Frame (y.taken + 1)) x.1) (λ t. bad (subst (InTurn m.stage) (upto_past bs a.rest.now a.taken u x.0 a.taken (omega arith)) t))

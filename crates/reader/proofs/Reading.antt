@@ -1,13 +1,13 @@
 -- From the two layers to what reading a file promises.
-use Rattle.std.proofs.Common.{◌≡◌, ℕ, suc, ◌<◌, ◌⊎◌, List, Ok, Err, Option, Result, sym, refl, ap, ◌∙◌, inl, inr, arith}
+use Rattle.std.proofs.Common.{ℕ, suc, List, Ok, Err, Option, Result, sym, ◌∙◌, inl, inr, arith}
 use Rattle.kinds.specs.declared.refusal.Cause.{Cause}
 use Rattle.kinds.specs.declared.refusal.Cause.TheVariants.{Line}
 use Rattle.reader.specs.declared.contents.Contents.{Contents}
 use Rattle.reader.specs.declared.contents.Wanted.{Wanted}
 use Rattle.reader.specs.declared.fault.Fault.{Fault}
 use Rattle.reader.specs.Faults.{Rank, rank, Before, Least}
-use Rattle.reader.specs.Lines.{pieces, Broken, Whole}
-use Rattle.reader.specs.Order.{First-disorder, FramesRead}
+use Rattle.reader.specs.Lines.{pieces, Whole}
+use Rattle.reader.specs.Order.{FirstDisorder, FramesRead}
 use Rattle.reader.specs.Readable.{figures_of, Unreadable, in_lines, in_frames, ReadAs, ComesBack}
 use Rattle.reader.specs.Turns.{FirstBroken}
 use Rattle.reader.proofs.Same.{no_unreadable, same_figures}
@@ -22,7 +22,7 @@ least_broken w bs f b = record { at = rank 1 (suc b.at) 0; cause = Line; has = i
     none q c (in_frames x) (inl lt) = omega arith
     none q c (in_frames x) (inr p) = omega (arith, p.0)
 
-pub least_disorder : (w : Option Wanted) (bs : List ℕ) (f : Fault) → Whole bs → First-disorder w (pieces bs) f → Least (Unreadable w bs) f
+pub least_disorder : (w : Option Wanted) (bs : List ℕ) (f : Fault) → Whole bs → FirstDisorder w (pieces bs) f → Least (Unreadable w bs) f
 least_disorder w bs f whole d = record { at = rank 2 d.line d.turn; cause = d.cause; has = in_frames d.has; is = d.is; before = none }
   where
     none : (q : Rank) (c : Cause) → Unreadable w bs q c → Before q (rank 2 d.line d.turn) → ⊥

@@ -1,30 +1,27 @@
 -- A file in form has no fault of lines or frames, and no two sets of figures in form have one file.
 --     no_unreadable   the file of figures in form can be read
 --     same_figures    figures in form with one file are the same
-use Rattle.std.proofs.Common.{◌≡◌, ℕ, suc, ◌+◌, ◌-◌, ◌<◌, ◌≤◌, true, ◌&&◌, List, [], ◌∷◌, ◌++◌, length, get_or, drop, ℤ, pos, negsuc, nat_abs, ◌≤ℤ◌, Option, sym, refl, ap, ◌∙◌, subst, ⊎_elim, arith, w32, w64, SFits, to_z, of_z}
-use lib.Signed.{le_z}
+use Rattle.std.proofs.Common.{◌≡◌, ℕ, suc, ◌+◌, ◌-◌, ◌<◌, ◌≤◌, true, List, [], ◌∷◌, ◌++◌, length, get_or, drop, ℤ, pos, negsuc, nat_abs, ◌≤ℤ◌, Option, sym, refl, ap, ◌∙◌, subst, ⊎_elim, arith, w32, w64, SFits, to_z, of_z}
 use mir.Facts.{Fits-of_z}
 use Rattle.std.specs.List.{AllByRecursion}
 use Rattle.std.proofs.ByRecursion.{All-get_or}
 use Rattle.std.proofs.lemmas.List.{ext_get_or}
 use Rattle.std.proofs.lemmas.Int.{to_z-of_z, ints}
 use Rattle.std.proofs.lemmas.Bool.{cases_lt}
-use Rattle.kinds.specs.declared.reading.Reading.{Reading as Noted-reading}
+use Rattle.kinds.specs.declared.reading.Reading.{Reading as NotedReading}
 use Rattle.kinds.specs.declared.refusal.Cause.{Cause}
 use Rattle.digits.specs.Fields.{field, Fits}
 use Rattle.digits.proofs.Fields.{field_length, field_same}
-use Rattle.archive.specs.declared.figures.Head.{Head as Stated-head}
-use Rattle.archive.specs.File.{Figures, Fitting, edition, texts, file, reading_text, entry_text, multiplier_text, end_text, fits_unsigned, fits_signed, reading_fits, entry_fits, multiplier_fits}
+use Rattle.archive.specs.File.{Figures, edition, file, reading_text, entry_text, multiplier_text, end_text, fits_unsigned, fits_signed, reading_fits, entry_fits, multiplier_fits}
 use Rattle.reader.specs.declared.contents.Wanted.{Wanted}
-use Rattle.reader.specs.declared.stage.Stage.{Stage}
-use Rattle.reader.specs.declared.stage.Stage.TheVariants.{Reading, Entry, Multiplier, End, Nothing}
+use Rattle.reader.specs.declared.stage.Stage.TheVariants.{Entry, Multiplier, Nothing}
 use Rattle.reader.specs.Faults.{Rank}
 use Rattle.reader.specs.Lines.{pieces}
 use Rattle.reader.specs.Frames.{stage_at, InTurn, HeadIs, Agrees, reach_of, Disorder, headless, unlike, many, short, misplaced}
 use Rattle.reader.specs.Readable.{InForm, Unreadable, in_lines, in_frames}
 use Rattle.reader.specs.Steps.{no_reading, text_of}
 use Rattle.reader.proofs.Heads.{cut_same, fields_same, head_one}
-use Rattle.reader.proofs.Texts.{stage_reading, stage_entry, stage_multiplier, stage_end, stage_nothing, texts_count, body_at, head_in_turn, text_in_turn, line_at, line_past, file_whole}
+use Rattle.reader.proofs.Texts.{stage_reading, stage_entry, stage_multiplier, stage_end, stage_nothing, body_at, head_in_turn, text_in_turn, line_at, line_past, file_whole}
 
 module _ (w : Option Wanted) (g : Figures) (form : InForm w g) where
   abbrev n : ℕ
@@ -91,15 +88,15 @@ signed_fits z e =
 behind_place : (k : ℕ) (a b : List ℕ) (x y : ℕ) → ◌≡◌ {A = List ℕ} (x ∷ y ∷ (field 4 k ++ a)) (x ∷ y ∷ (field 4 k ++ b)) → a ≡ b
 behind_place k a b x y e = (cut_same (field 4 k) (field 4 k) a b 4 (field_length 4 k) (field_length 4 k) (ap (drop 2) e)).1
 
-record ReadingFitting (r : Noted-reading) : Type 0 where
+record ReadingFitting (r : NotedReading) : Type 0 where
   minute : (pos 0 ≤ℤ r.minute) × Fits 8 (nat_abs r.minute)
   crude : (pos 0 ≤ℤ r.crude) × Fits 4 (nat_abs r.crude)
   weight : (pos 0 ≤ℤ r.weight) × Fits 4 (nat_abs r.weight)
 
-reading_fitting : (r : Noted-reading) → reading_fits r ≡ true → ReadingFitting r
+reading_fitting : (r : NotedReading) → reading_fits r ≡ true → ReadingFitting r
 reading_fitting r e = record { minute = unsigned_fits 8 r.minute (grind arith); crude = unsigned_fits 4 r.crude (grind arith); weight = unsigned_fits 4 r.weight (grind arith) }
 
-reading_one : (k : ℕ) (r s : Noted-reading) → reading_fits r ≡ true → reading_fits s ≡ true → reading_text k r ≡ reading_text k s → r ≡ s
+reading_one : (k : ℕ) (r s : NotedReading) → reading_fits r ≡ true → reading_fits s ≡ true → reading_text k r ≡ reading_text k s → r ≡ s
 unfolding reading_text
 reading_one k r s f g e =
     let a = reading_fitting r f in

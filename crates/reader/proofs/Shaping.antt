@@ -1,15 +1,12 @@
 -- Lines that are frames, and their fields.
-use Rattle.std.proofs.Common.{◌≡◌, ℕ, zero, suc, ◌+◌, ◌-◌, ◌<◌, ◌≤◌, true, List, [], ◌∷◌, ◌++◌, length, get_or, take, drop, sym, refl, ap, ◌∙◌, subst, arith, length-append, length-drop, length-take}
+use Rattle.std.proofs.Common.{◌≡◌, ℕ, suc, ◌-◌, ◌≤◌, true, List, [], ◌∷◌, ◌++◌, length, get_or, take, drop, sym, refl, ap, ◌∙◌, subst, arith, length-drop}
 use Rattle.std.proofs.ByRecursion.{All-drop, All-take}
 use Rattle.std.proofs.lemmas.List.{take_rest, take-append-drop, length-take-le}
 use Rattle.digits.specs.Fields.{is_digit, Digits, field}
-use Rattle.digits.proofs.Fields.{field_length}
-use Rattle.reader.specs.declared.stage.Stage.{Stage}
 use Rattle.reader.specs.declared.stage.Stage.TheVariants.{Head, Reading, Entry, Multiplier, End, Nothing}
 use Rattle.reader.specs.declared.frames.Form.{Form}
 use Rattle.reader.specs.declared.frames.Form.TheVariants as form_of
 use Rattle.reader.specs.Lines.{Good}
-use Rattle.reader.specs.Frames.{lead, size, InTurn}
 use Rattle.reader.specs.Shapes.{Field, Cut, form, NoFrame}
 
 abbrev IsDigit : ℕ → Type 0

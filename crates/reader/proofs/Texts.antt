@@ -5,20 +5,19 @@
 --     text_good       it is a good line
 --     pieces_file     a file falls into its lines
 --     rejoin          bytes are their pieces with an end byte between
-use Rattle.std.proofs.Common.{◌≡◌, ℕ, zero, suc, ◌+◌, ◌-◌, ◌<◌, ◌≤◌, true, false, cond, eqb, ltb, ◌⊎◌, List, [], ◌∷◌, ◌++◌, length, get_or, take, drop, ℤ, pos, nat_abs, sym, refl, ap, ◌∙◌, subst, inl, inr, ⊎_elim, append_assoc, arith, length-append, w32, w64, of_z}
+use Rattle.std.proofs.Common.{◌≡◌, ℕ, zero, suc, ◌+◌, ◌-◌, ◌<◌, ◌≤◌, true, eqb, List, [], ◌∷◌, ◌++◌, length, get_or, take, pos, sym, refl, ap, ◌∙◌, subst, inl, inr, ⊎_elim, append_assoc, arith, length-append}
 use Rattle.std.specs.List.{flat_map, AllByRecursion}
 use Rattle.std.proofs.ByRecursion.{All-append, All-get_or, All-from_get_or}
 use Rattle.std.proofs.lemmas.List.{take_at, get_or_append_left, get_or-append_right}
-use Rattle.std.proofs.lemmas.Bool.{lt-ltb, le-ltb, cases_lt, eqb-true, ne_eqb, cases_Bool}
-use Rattle.kinds.specs.declared.reading.Reading.{Reading as Noted-reading}
+use Rattle.std.proofs.lemmas.Bool.{lt-ltb, le-ltb, cases_lt, eqb-true, cases_Bool}
 use Rattle.digits.specs.Fields.{is_digit, Digits, field}
 use Rattle.digits.proofs.Fields.{field_length, field_digits}
-use Rattle.archive.specs.declared.figures.Head.{Head as Stated-head}
+use Rattle.archive.specs.declared.figures.Head.{Head as StatedHead}
 use Rattle.archive.specs.File.{Figures, edition, head_text, reading_text, entry_text, multiplier_text, end_text, texts_from, texts, line, file}
 use Rattle.reader.specs.declared.stage.Stage.{Stage}
 use Rattle.reader.specs.declared.stage.Stage.TheVariants.{Head, Reading, Entry, Multiplier, End, Nothing}
-use Rattle.reader.specs.Lines.{Good, pieces, before_first, Broken, Whole}
-use Rattle.reader.specs.Frames.{stage_at, lead, size, InTurn, HeadIs}
+use Rattle.reader.specs.Lines.{Good, pieces, before_first, Whole}
+use Rattle.reader.specs.Frames.{stage_at, size, InTurn, HeadIs}
 use Rattle.reader.specs.Steps.{no_reading, text_of}
 use Rattle.reader.proofs.Cuts.{pieces_line, pieces_last, pieces_some, good_no_end}
 
@@ -143,11 +142,11 @@ module _ (g : Figures) (n m : ℕ) (readings : length g.readings ≡ n) (entries
 led : (x y k : ℕ) (t : List ℕ) → take (length (x ∷ y ∷ field 4 k)) (x ∷ y ∷ (field 4 k ++ t)) ≡ x ∷ y ∷ field 4 k
 led x y k t = ap (λ l. x ∷ y ∷ l) (take_at (field 4 k) t (length (field 4 k)) refl)
 
-head_length : (e : ℕ) (h : Stated-head) → length (head_text e h) ≡ 48
+head_length : (e : ℕ) (h : StatedHead) → length (head_text e h) ≡ 48
 unfolding head_text
 head_length e h = simp (length-append, field_length)
 
-pub head_in_turn : (l : List ℕ) (e : ℕ) (h : Stated-head) → HeadIs l e h → InTurn Head l
+pub head_in_turn : (l : List ℕ) (e : ℕ) (h : StatedHead) → HeadIs l e h → InTurn Head l
 unfolding head_text
 head_in_turn l e h i = record { leads = ap (take 2) i.text; sized = ap length i.text ∙ head_length e h }
 

@@ -10,7 +10,7 @@ use Rattle.std.specs.Prelude.{◌≡◌, ℕ, suc, ◌+◌, ◌-◌, ◌<◌, �
 use Rattle.kinds.specs.declared.refusal.Cause.{Cause}
 use Rattle.kinds.specs.declared.refusal.Cause.TheVariants.{Frame, Mark, Full, Short}
 use Rattle.digits.specs.Fields.{field, Fits}
-use Rattle.archive.specs.declared.figures.Head.{Head as Stated-head}
+use Rattle.archive.specs.declared.figures.Head.{Head as StatedHead}
 use Rattle.archive.specs.File.{edition, head_text, head_fits}
 use Rattle.reader.specs.declared.contents.Wanted.{Wanted}
 use Rattle.reader.specs.declared.stage.Stage.{Stage}
@@ -44,7 +44,7 @@ pub record InTurn (s : Stage) (l : List ℕ) : Type 0 where
   pub leads : take (length (lead s)) l ≡ lead s
   pub sized : length l ≡ size s
 
-pub record HeadIs (l : List ℕ) (e : ℕ) (h : Stated-head) : Type 0 where
+pub record HeadIs (l : List ℕ) (e : ℕ) (h : StatedHead) : Type 0 where
   pub edition_fits : Fits 2 e
   pub fitting : head_fits h ≡ true
   pub text : l ≡ head_text e h
@@ -53,21 +53,21 @@ abbrev pub reach_of : Option Wanted → ℕ
 reach_of None = 0
 reach_of (Some w) = w.reach
 
-abbrev pub Agrees : Option Wanted → Stated-head → Type 0
+abbrev pub Agrees : Option Wanted → StatedHead → Type 0
 Agrees None h = ⊥
 Agrees (Some w) h = (h.roughness ≡ w.roughness) × (h.misfit ≡ w.misfit) × (h.bend ≡ w.bend)
 
-abbrev pub Like : Option Wanted → ℕ → Stated-head → Type 0
+abbrev pub Like : Option Wanted → ℕ → StatedHead → Type 0
 Like w e h = (e ≡ edition) × Agrees w h
 
 pub data Disorder (w : Option Wanted) (ls : List (List ℕ)) : ℕ → ℕ → Cause → Type 0 where
   -- line 1 is no head
   headless : (InTurn Head (slice_index_or ls 0 []) → ⊥) → Disorder w ls 1 0 Frame
   -- its edition or a mark is not the one that is wanted
-  unlike : {e : ℕ} {h : Stated-head} → HeadIs (slice_index_or ls 0 []) e h → (Like w e h → ⊥) → Disorder w ls 1 1 Mark
+  unlike : {e : ℕ} {h : StatedHead} → HeadIs (slice_index_or ls 0 []) e h → (Like w e h → ⊥) → Disorder w ls 1 1 Mark
   -- it says more than 240 readings
-  many : {e : ℕ} {h : Stated-head} → HeadIs (slice_index_or ls 0 []) e h → 240 < h.readings → Disorder w ls 1 2 Full
+  many : {e : ℕ} {h : StatedHead} → HeadIs (slice_index_or ls 0 []) e h → 240 < h.readings → Disorder w ls 1 2 Full
   -- it says no more readings than the reach
-  short : {e : ℕ} {h : Stated-head} → HeadIs (slice_index_or ls 0 []) e h → h.readings ≤ reach_of w → Disorder w ls 1 3 Short
+  short : {e : ℕ} {h : StatedHead} → HeadIs (slice_index_or ls 0 []) e h → h.readings ≤ reach_of w → Disorder w ls 1 3 Short
   -- a later line is missing, or is not what has to stand there
-  misplaced : {e : ℕ} {h : Stated-head} {j : ℕ} → HeadIs (slice_index_or ls 0 []) e h → (InTurn (stage_at h.readings (h.readings - reach_of w) j) (slice_index_or ls (suc j) []) → ⊥) → Disorder w ls (suc (suc j)) 0 Frame
+  misplaced : {e : ℕ} {h : StatedHead} {j : ℕ} → HeadIs (slice_index_or ls 0 []) e h → (InTurn (stage_at h.readings (h.readings - reach_of w) j) (slice_index_or ls (suc j) []) → ⊥) → Disorder w ls (suc (suc j)) 0 Frame

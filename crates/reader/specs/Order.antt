@@ -1,5 +1,5 @@
 -- What the second layer finds.
---     First-disorder  that a fault is the first of those of the frames
+--     FirstDisorder  that a fault is the first of those of the frames
 --     FramesRead     figures in form of which the bytes are the file; or the first fault of the frames
 use Rattle.std.specs.Prelude.{◌≡◌, ℕ, ◌<◌, ◌⊎◌, List, Ok, Err, Option, Result}
 use Rattle.kinds.specs.declared.refusal.Cause.{Cause}
@@ -12,7 +12,7 @@ use Rattle.reader.specs.Lines.{pieces}
 use Rattle.reader.specs.Frames.{Disorder}
 use Rattle.reader.specs.Readable.{figures_of, InForm}
 
-pub record First-disorder (w : Option Wanted) (ls : List (List ℕ)) (f : Fault) : Type 0 where
+pub record FirstDisorder (w : Option Wanted) (ls : List (List ℕ)) (f : Fault) : Type 0 where
   pub line : ℕ
   pub turn : ℕ
   pub cause : Cause
@@ -22,4 +22,4 @@ pub record First-disorder (w : Option Wanted) (ls : List (List ℕ)) (f : Fault)
 
 abbrev pub FramesRead : Option Wanted → List ℕ → Result Contents Fault → Type 0
 FramesRead w bs (Ok c) = InForm w (figures_of c) × (bs ≡ file (figures_of c))
-FramesRead w bs (Err f) = First-disorder w (pieces bs) f
+FramesRead w bs (Err f) = FirstDisorder w (pieces bs) f

@@ -12,11 +12,11 @@
 --     LineTaken      a later line that the machine takes
 --     HeadStepped, LineStepped     a step at the head, and behind it
 --     Stepped         one step: of the line, its number, the machine before and after, and the answer; `SteppedAt` by stage
-use Rattle.std.specs.Prelude.{◌≡◌, ℕ, ◌+◌, ◌-◌, ◌<◌, ◌≤◌, Bool, true, ◌&&◌, ◌⊎◌, List, [], pos, Ok, Err, Option, Result, ◌≢◌, slice_index_or}
-use Rattle.kinds.specs.declared.reading.Reading.{Reading as Noted-reading}
+use Rattle.std.specs.Prelude.{◌≡◌, ℕ, ◌+◌, ◌-◌, ◌<◌, ◌≤◌, Bool, true, ◌⊎◌, List, [], pos, Ok, Err, Option, Result, ◌≢◌, slice_index_or}
+use Rattle.kinds.specs.declared.reading.Reading.{Reading as NotedReading}
 use Rattle.kinds.specs.declared.refusal.Cause.TheVariants.{Frame, Mark, Full, Short}
-use Rattle.archive.specs.declared.figures.Head.{Head as Stated-head}
-use Rattle.archive.specs.File.{Figures, edition, head_text, reading_text, entry_text, multiplier_text, end_text, fits, head_fits, reading_fits, entry_fits, multiplier_fits}
+use Rattle.archive.specs.declared.figures.Head.{Head as StatedHead}
+use Rattle.archive.specs.File.{Figures, edition, head_text, reading_text, entry_text, multiplier_text, end_text, head_fits, reading_fits, entry_fits, multiplier_fits}
 use Rattle.reader.specs.declared.contents.Wanted.{Wanted}
 use Rattle.reader.specs.declared.fault.Fault.{Fault}
 use Rattle.reader.specs.declared.machine.Machine.{Machine}
@@ -26,7 +26,7 @@ use Rattle.reader.specs.Faults.{fault}
 use Rattle.reader.specs.Frames.{stage_at, InTurn, HeadIs, Agrees, Like, reach_of}
 use Rattle.reader.specs.Readable.{figures_of}
 
-abbrev pub no_reading : Noted-reading
+abbrev pub no_reading : NotedReading
 no_reading = record { minute = pos 0; crude = pos 0; weight = pos 0 }
 
 abbrev pub text_of : Figures → Stage → List ℕ
@@ -74,20 +74,20 @@ pub record HeadTaken (w : Option Wanted) (l : List ℕ) (m : Machine) : Type 0 w
   pub none : m.taken ≡ 0
   pub running : Running m
 
-abbrev pub HeadOff : Option Wanted → ℕ → Stated-head → ℕ → Fault → Type 0
+abbrev pub HeadOff : Option Wanted → ℕ → StatedHead → ℕ → Fault → Type 0
 HeadOff w e h at f =
     ((f ≡ fault 2 Mark at) × (Like w e h → ⊥))
     ⊎ (((f ≡ fault 2 Full at) × Like w e h × (240 < h.readings))
     ⊎ ((f ≡ fault 2 Short at) × Like w e h × (h.readings ≤ 240) × (h.readings ≤ reach_of w)))
 
-abbrev pub HeadChecked : Option Wanted → ℕ → Stated-head → ℕ → Result ℕ Fault → Type 0
+abbrev pub HeadChecked : Option Wanted → ℕ → StatedHead → ℕ → Result ℕ Fault → Type 0
 HeadChecked w e h at (Ok m) = Like w e h × (h.readings ≤ 240) × (reach_of w < h.readings) × (m ≡ h.readings - reach_of w)
 HeadChecked w e h at (Err f) = HeadOff w e h at f
 
 abbrev pub HeadRefused : Option Wanted → List ℕ → ℕ → Fault → Type 0
 HeadRefused w l at f =
     ((f ≡ fault 2 Frame at) × (InTurn Head l → ⊥))
-    ⊎ ((e : ℕ) × (h : Stated-head) × HeadIs l e h × HeadOff w e h at f)
+    ⊎ ((e : ℕ) × (h : StatedHead) × HeadIs l e h × HeadOff w e h at f)
 
 pub record LineTaken (l : List ℕ) (m m' : Machine) : Type 0 where
   pub put : Put m.stage l (figures_of m.contents) (figures_of m'.contents)

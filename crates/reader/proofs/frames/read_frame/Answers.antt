@@ -1,15 +1,15 @@
-use Rattle.std.proofs.Common.{◌≡◌, ◌∷◌, ◌++◌, length, get_or, sym, refl, ap, ◌∙◌, arith}
+use Rattle.std.proofs.Common.{◌∷◌, length, get_or, ap, ◌∙◌, arith}
 use Rattle.reader.proofs.Shaping.{behind, led, form_head, form_reading, form_entry, form_multiplier, form_end, no_frame}
 use Rattle.reader.proofs.frames.read_frame.Goals as goal
 
-pub head-frame-requires : goal.head-frame-requires
-head-frame-requires c =
+pub head_frame-requires : goal.head_frame-requires
+head_frame-requires c =
     let l = c.args.line.now in
     let f = form_head (get_or l 0 0) (get_or l 1 0) (length (behind l)) c.in-Head.ensures in
     (led l 48 49 46 c.requires f.0 f.1 f.2).1
 
-pub reading-frame-requires : goal.reading-frame-requires
-reading-frame-requires c =
+pub reading_frame-requires : goal.reading_frame-requires
+reading_frame-requires c =
     let l = c.args.line.now in
     let f = form_reading (get_or l 0 0) (get_or l 1 0) (length (behind l)) c.in-Reading.ensures in
     (led l 48 50 20 c.requires f.0 f.1 f.2).1
@@ -27,13 +27,13 @@ pub returns-in-Head : goal.returns-in-Head
 returns-in-Head c =
     let l = c.args.line.now in
     let f = form_head (get_or l 0 0) (get_or l 1 0) (length (behind l)) c.in-Head.ensures in
-    ((led l 48 49 46 c.requires f.0 f.1 f.2).0 ∙ c.head-frame.ensures.0, c.head-frame.ensures.1)
+    ((led l 48 49 46 c.requires f.0 f.1 f.2).0 ∙ c.head_frame.ensures.0, c.head_frame.ensures.1)
 
 pub returns-in-Reading : goal.returns-in-Reading
 returns-in-Reading c =
     let l = c.args.line.now in
     let f = form_reading (get_or l 0 0) (get_or l 1 0) (length (behind l)) c.in-Reading.ensures in
-    ((led l 48 50 20 c.requires f.0 f.1 f.2).0 ∙ c.reading-frame.ensures.0, c.reading-frame.ensures.1)
+    ((led l 48 50 20 c.requires f.0 f.1 f.2).0 ∙ c.reading_frame.ensures.0, c.reading_frame.ensures.1)
 
 pub returns-in-Entry : goal.returns-in-Entry
 returns-in-Entry c =

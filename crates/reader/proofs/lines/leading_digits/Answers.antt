@@ -5,7 +5,7 @@ use Rattle.reader.proofs.Cuts.{known_digits, end_off}
 use Rattle.reader.proofs.lines.leading_digits.Goals as goal
 
 pub loop-at-preserved : goal.loop-at-preserved
-loop-at-preserved c = All-more (λ b. is_digit b ≡ true) c.args.bytes.now c.loop-at.at 0 (omega arith) c.loop-at.invariant (sym c.if-not-is-digit.ensures)
+loop-at-preserved c = All-more (λ b. is_digit b ≡ true) c.args.bytes.now c.loop-at.at 0 (omega arith) c.loop-at.invariant (sym c.if-not-is_digit.ensures)
 
 pub returns-then-known : goal.returns-then-known
 returns-then-known c =

@@ -10,8 +10,8 @@ small c =
     let most : 16 ^ length c.args.digits.now ≤ 16 ^ 8 = pow-le-pow_right (omega arith) c.requires.short in
     omega (arith, c.figure.ensures.fits)
 
-pub overflow-cast-result : goal.overflow-cast-result
-overflow-cast-result c = let less = small c in search rules
+pub overflow_cast-result : goal.overflow_cast-result
+overflow_cast-result c = let less = small c in search rules
 
 pub returns : goal.returns
 returns c =

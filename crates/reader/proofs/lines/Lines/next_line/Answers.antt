@@ -1,4 +1,4 @@
-use Rattle.std.proofs.Common.{◌≡◌, ◌<◌, length, refl, arith, rules}
+use Rattle.std.proofs.Common.{◌<◌, length, refl, arith}
 use Rattle.std.proofs.lemmas.List.{nil_from_length}
 use Rattle.reader.proofs.Cuts.{start_open, start_other, start_sized, start_good}
 use Rattle.reader.proofs.lines.Lines.next_line.Goals as goal
@@ -10,8 +10,8 @@ returns-then-self-eq0 c = (nil_from_length _ c.if-self-eq0.true, refl)
 pub returns-then-end-self : goal.returns-then-end-self
 returns-then-end-self c =
     let s = c.args.self.now.rest.now in
-    let e = c.leading-digits-end.result in
-    let found = c.leading-digits-end.ensures in
+    let e = c.leading_digits-end.result in
+    let found = c.leading_digits-end.ensures in
     let some : 0 < length s = omega arith in (
       c.new.ensures,
       elim c.then-end-self.branch [
@@ -29,8 +29,8 @@ returns-then-end-self c =
 pub returns : goal.returns
 returns c =
     let s = c.args.self.now.rest.now in
-    let e = c.leading-digits-end.result in
-    let found = c.leading-digits-end.ensures in
-    let cut = start_good s e found.within found.digits c.split-at.result.0.now c.split-at.result.1.now (omega (arith, found.within, c.if-end-self.false)) c.if-self-end-ne10.false
-    c.if-end-lt2.false c.if-end-gt60.false c.split-at.ensures.front c.split-at.ensures.back in
+    let e = c.leading_digits-end.result in
+    let found = c.leading_digits-end.ensures in
+    let cut = start_good s e found.within found.digits c.split_at.result.0.now c.split_at.result.1.now (omega (arith, found.within, c.if-end-self.false)) c.if-self-end-ne10.false
+    c.if-end-lt2.false c.if-end-gt60.false c.split_at.ensures.front c.split_at.ensures.back in
     (cut.0, refl, cut.1)

@@ -1,7 +1,6 @@
-use Rattle.std.proofs.Common.{◌≡◌, ◌+◌, ◌<◌, ◌∷◌, ◌++◌, sym, refl, ap, ◌∙◌, subst, arith, w64, SFits, of_z, rules}
+use Rattle.std.proofs.Common.{sym, ap, ◌∙◌, arith, w64, SFits, of_z, rules}
 use Rattle.std.proofs.lemmas.Int.{to_z-of_z}
 use Rattle.archive.specs.File.{end_text}
-use Rattle.digits.specs.Fields.{field}
 use Rattle.reader.specs.declared.stage.Stage.TheVariants.{End}
 use Rattle.reader.proofs.Keeping.{SameHead, at_end, written, put_end, kept}
 use Rattle.reader.proofs.machine.Machine.keep_end.Goals as goal
@@ -14,11 +13,11 @@ returns c =
     let e = c.advance.ensures.contents in
     let at = at_end m.contents.head.readings m.contents.count m.taken (sym c.requires.stage ∙ c.requires.running.waits) in
     let f = c.requires.fields in
-    let fits : SFits w64 c.long-signed-self.result = search rules in
+    let fits : SFits w64 c.long_signed-self.result = search rules in
     let one = written 16 c.args.cost.now c.figure-self.result f.0 c.figure-self.ensures in
-    let two = written 16 c.args.floor.now (of_z w64 c.long-signed-self.result) f.1 c.long-signed-self.ensures in
+    let two = written 16 c.args.floor.now (of_z w64 c.long_signed-self.result) f.1 c.long_signed-self.ensures in
     let cost = ap (λ x. x.cost) e in
-    let floor = ap (λ x. x.floor) e ∙ to_z-of_z w64 c.long-signed-self.result fits in
+    let floor = ap (λ x. x.floor) e ∙ to_z-of_z w64 c.long_signed-self.result fits in
     let h : SameHead m.contents m'.contents = record { head = ap (λ x. x.head) e; count = ap (λ x. x.count) e } in
     kept _ m m' End c.requires.stage h
     (put_end m.contents m'.contents h 0 _ (ap (λ x. x.readings) e) (ap (λ x. x.entries) e) (ap (λ x. x.multipliers) e) (rw (cost, floor, one, two)))

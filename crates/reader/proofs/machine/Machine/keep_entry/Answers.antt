@@ -1,7 +1,6 @@
-use Rattle.std.proofs.Common.{◌≡◌, ◌+◌, ◌<◌, ◌∷◌, ◌++◌, set, nat_abs, sym, refl, ap, ◌∙◌, subst, arith, w32, w64, SFits, of_z, rules}
+use Rattle.std.proofs.Common.{◌∷◌, ◌++◌, set, nat_abs, sym, ap, ◌∙◌, subst, arith, w64, SFits, rules}
 use Rattle.std.proofs.lemmas.Int.{to_z-of_z}
 use Rattle.archive.specs.File.{entry_text}
-use Rattle.digits.specs.Fields.{field}
 use Rattle.reader.specs.declared.stage.Stage.TheVariants.{Entry}
 use Rattle.reader.specs.Frames.{InTurn}
 use Rattle.reader.proofs.Keeping.{SameHead, at_entry, other_place, at_place, written, fits_read, put_entry, kept}

@@ -1,4 +1,4 @@
-use Rattle.std.proofs.Common.{◌≡◌, ◌+◌, ◌≤◌, sym, refl, ap, ◌∙◌, subst, inr, arith}
+use Rattle.std.proofs.Common.{refl, subst, inr, arith}
 use Rattle.std.proofs.lemmas.Result.{err_from_is_err_and}
 use Rattle.reader.specs.declared.frames.Frame.TheVariants.{Head}
 use Rattle.reader.specs.Frames.{HeadIs}
@@ -6,18 +6,18 @@ use Rattle.reader.specs.Shapes.{frame_text}
 use Rattle.reader.proofs.Keeping.{head_is}
 use Rattle.reader.proofs.machine.Machine.keep_head.Goals as goal
 
-pub returns-in-err-count : goal.returns-in-err-count
-returns-in-err-count c =
-    let p = err_from_is_err_and c.from-residual.result c.from-residual.ensures.1 in
-    let i = head_is c.args.fields c.figure.result c.head-of-head.result c.requires c.figure.ensures c.head-of-head.ensures in
-    rw (p.1, p.2) (inr (c.figure.result, c.head-of-head.result, i, c.in-err-count.ensures))
+pub returns-in_err-count : goal.returns-in_err-count
+returns-in_err-count c =
+    let p = err_from_is_err_and c.from_residual.result c.from_residual.ensures.1 in
+    let i = head_is c.args.fields c.figure.result c.head_of-head.result c.requires c.figure.ensures c.head_of-head.ensures in
+    rw (p.1, p.2) (inr (c.figure.result, c.head_of-head.result, i, c.in_err-count.ensures))
 
 pub returns : goal.returns
 returns c =
-    let i = head_is c.args.fields c.figure.result c.head-of-head.result c.requires c.figure.ensures c.head-of-head.ensures in
-    let h = c.in-ok-count.ensures in
+    let i = head_is c.args.fields c.figure.result c.head_of-head.result c.requires c.figure.ensures c.head_of-head.ensures in
+    let h = c.in_ok-count.ensures in
     record {
-      head = subst (λ e. HeadIs (frame_text (Head c.args.fields)) e c.head-of-head.result) h.0.0 i;
+      head = subst (λ e. HeadIs (frame_text (Head c.args.fields)) e c.head_of-head.result) h.0.0 i;
       agrees = h.0.1;
       long = h.2;
       count = h.3;

@@ -1,10 +1,9 @@
-use Rattle.std.proofs.Common.{◌≡◌, ◌+◌, ◌<◌, ◌∷◌, ◌++◌, set, nat_abs, sym, refl, ap, ◌∙◌, subst, arith, w32, w64, SFits, of_z, rules}
+use Rattle.std.proofs.Common.{◌∷◌, ◌++◌, set, sym, ap, ◌∙◌, subst, arith, w32, w64, SFits, of_z, rules}
 use Rattle.std.proofs.lemmas.Int.{to_z-of_z}
 use Rattle.archive.specs.File.{multiplier_text}
-use Rattle.digits.specs.Fields.{field}
 use Rattle.reader.specs.declared.stage.Stage.TheVariants.{Multiplier}
 use Rattle.reader.specs.Frames.{InTurn}
-use Rattle.reader.proofs.Keeping.{SameHead, at_multiplier, other_place, at_place, written, fits_read, put_multiplier, kept}
+use Rattle.reader.proofs.Keeping.{SameHead, at_multiplier, other_place, at_place, written, put_multiplier, kept}
 use Rattle.reader.proofs.machine.Machine.keep_multiplier.Goals as goal
 
 pub returns-then-figure-k : goal.returns-then-figure-k
@@ -24,12 +23,12 @@ returns c =
     let e = c.advance.ensures.contents in
     let at = at_multiplier m.contents.head.readings m.contents.count m.taken c.args.k (sym c.requires.stage ∙ c.requires.running.waits) in
     let f = c.requires.fields in
-    let fits : SFits w64 c.short-signed.result = search rules in
+    let fits : SFits w64 c.short_signed.result = search rules in
     let one = at_place c.args.place.now c.figure.result c.args.k f.0 c.figure.ensures c.if-figure-k.false in
-    let two = written 8 c.args.value.now (of_z w32 c.short-signed.result) f.1 c.short-signed.ensures.value in
+    let two = written 8 c.args.value.now (of_z w32 c.short_signed.result) f.1 c.short_signed.ensures.value in
     let h : SameHead m.contents m'.contents = record { head = ap (λ x. x.head) e; count = ap (λ x. x.count) e } in
     kept _ m m' (Multiplier c.args.k) c.requires.stage h
-    (put_multiplier m.contents m'.contents h c.args.k _ c.short-signed.result (ap (λ x. x.readings) e) (ap (λ x. x.entries) e) (ap (λ x. x.multipliers) e ∙ ap (set m.contents.multipliers c.args.k) (to_z-of_z w64 c.short-signed.result fits))
+    (put_multiplier m.contents m'.contents h c.args.k _ c.short_signed.result (ap (λ x. x.readings) e) (ap (λ x. x.entries) e) (ap (λ x. x.multipliers) e ∙ ap (set m.contents.multipliers c.args.k) (to_z-of_z w64 c.short_signed.result fits))
     (ap (λ x. x.cost) e, ap (λ x. x.floor) e)
-    at.1 (omega (arith, at.1, m.contents.fewer, m.contents.places.2)) (rw (one, two)) c.short-signed.ensures.fits)
+    at.1 (omega (arith, at.1, m.contents.fewer, m.contents.places.2)) (rw (one, two)) c.short_signed.ensures.fits)
     (omega (arith, at.0, at.1)) c.advance.ensures.taken c.advance.ensures.stage

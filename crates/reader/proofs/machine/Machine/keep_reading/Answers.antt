@@ -1,7 +1,6 @@
-use Rattle.std.proofs.Common.{◌≡◌, ℕ, ◌+◌, ◌<◌, List, ◌∷◌, ◌++◌, set, nat_abs, sym, refl, ap, ◌∙◌, subst, arith, w64, SFits, rules}
+use Rattle.std.proofs.Common.{◌∷◌, ◌++◌, set, nat_abs, sym, ap, ◌∙◌, subst, arith, w64, SFits, rules}
 use Rattle.archive.specs.File.{reading_text}
-use Rattle.kinds.specs.declared.reading.Reading.{Reading as Noted-reading}
-use Rattle.digits.specs.Fields.{field}
+use Rattle.kinds.specs.declared.reading.Reading.{Reading as NotedReading}
 use Rattle.reader.specs.declared.stage.Stage.TheVariants.{Reading}
 use Rattle.reader.specs.Frames.{InTurn}
 use Rattle.reader.proofs.Keeping.{SameHead, at_reading, other_place, at_place, written, fits_read, stored, put_reading, kept}
@@ -28,7 +27,7 @@ returns c =
     let fits1 : SFits w64 c.unsigned.result = search rules in
     let fits2 : SFits w64 c.unsigned-2.result = search rules in
     let fits3 : SFits w64 c.unsigned-3.result = search rules in
-    let r : Noted-reading = record { minute = c.unsigned.result; crude = c.unsigned-2.result; weight = c.unsigned-3.result } in
+    let r : NotedReading = record { minute = c.unsigned.result; crude = c.unsigned-2.result; weight = c.unsigned-3.result } in
     let one = at_place c.args.place.now c.figure.result c.args.k f.0 c.figure.ensures c.if-figure-k.false in
     let two = written 8 c.args.minute.now (nat_abs c.unsigned.result) f.1 c.unsigned.ensures.value in
     let three = written 4 c.args.crude.now (nat_abs c.unsigned-2.result) f.2 c.unsigned-2.ensures.value in
