@@ -2,7 +2,7 @@
 --     Floorable         what multipliers that pass all checks but that of the columns are
 use Rattle.std.proofs.Common.{◌≡◌, ℕ, ◌+◌, ◌-◌, ◌<◌, ◌≤◌, true, ◌&&◌, eqb, ltb, leb, List, [], ◌∷◌, length, take, ℤ, nat_abs, Some, None, Err, Option, Result, sym, refl, ap, ◌∙◌, arith}
 use Rattle.kinds.specs.declared.reading.Reading.{Reading}
-use Rattle.kinds.specs.declared.refusal.Cause.TheVariants.{Length, Denominator as Bad-denominator, Multiplier, Column, Short}
+use Rattle.kinds.specs.declared.refusal.Cause.TheVariants.{Length, Denominator as BadDenominator, Multiplier, Column, Short}
 use Rattle.kinds.specs.declared.refusal.Refusal.{Refusal}
 use Rattle.kinds.specs.Checks.{at, unless, located, or_else, first_off, first_off_from, answer}
 use Rattle.kinds.specs.Figures.{dot, largest, over}
@@ -131,7 +131,7 @@ accepted k h xs d ms room given m kinds reaches fits =
     let stiff : stiffness_no h ≡ None = grind (arith, given.stiff) in
     let short : unless (ltb (told_reach k.roughness) (length xs)) (at Short 0) ≡ None = grind arith in
     let long : unless (eqb (length ms) (length xs - told_reach k.roughness) && leb (length xs) room) (at Length 0) ≡ None = grind arith in
-    let divides : unless (is_denominator d) (at Bad-denominator 0) ≡ None = grind (arith, given.divides) in
+    let divides : unless (is_denominator d) (at BadDenominator 0) ≡ None = grind (arith, given.divides) in
     let slopes = ap (located Multiplier) (none_off k.bend (nat_abs h) (nat_abs d) 0 ms m.multipliers) in
     let own : multipliers_no k (nat_abs h) (length xs) d ms room ≡ None = and_none _ _ kinds (and_none _ _ short (and_none _ _ long (and_none _ _ divides (and_none _ _ slopes refl)))) in
     let before : before_columns_no k h xs d ms room ≡ None = and_none _ _ stiff (and_none _ _ given.noted (and_none _ _ own refl)) in

@@ -3,11 +3,11 @@ use Rattle.catalogue.proofs.marks.kinds_of.Goals as goal
 
 pub returns : goal.returns
 returns c = record {
-  roughness = c.in-ok-roughness.roughness;
-  misfit = c.in-ok-misfit.misfit;
-  bend = c.in-ok-bend.bend;
+  roughness = c.in_ok-roughness.roughness;
+  misfit = c.in_ok-misfit.misfit;
+  bend = c.in_ok-bend.bend;
   are = refl;
-  roughness_mark = c.in-ok-roughness.ensures;
-  misfit_mark = c.in-ok-misfit.ensures;
-  bend_mark = c.in-ok-bend.ensures;
+  roughness_mark = c.in_ok-roughness.ensures;
+  misfit_mark = c.in_ok-misfit.ensures;
+  bend_mark = c.in_ok-bend.ensures;
 }

@@ -11,7 +11,7 @@ returns-then-contents-cost c =
     rw (c.new.ensures ∙ ap (fault 3 Stated) (end_held c.args.contents.now))
     (unstated (λ both. elim c.then-contents-cost.branch [ then-contents-cost-via-then-contents-cost w ↦ w.if-contents-cost.true both.0 | then-contents-cost-via-else-contents-cost+then-contents-floor w ↦ w.if-contents-floor.true (ap (of_z w64) both.1) ]))
 
-pub returns-then-not-is-within : goal.returns-then-not-is-within
-returns-then-not-is-within c =
-    rw (c.new-then-not-is-within.ensures ∙ ap (fault 3 Gap) (end_held c.args.contents.now))
-    (wide c.if-contents-cost.false (search rules) (sym c.if-not-is-within.ensures))
+pub returns-then-not-is_within : goal.returns-then-not-is_within
+returns-then-not-is_within c =
+    rw (c.new-then-not-is_within.ensures ∙ ap (fault 3 Gap) (end_held c.args.contents.now))
+    (wide c.if-contents-cost.false (search rules) (sym c.if-not-is_within.ensures))

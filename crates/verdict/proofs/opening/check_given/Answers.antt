@@ -9,12 +9,12 @@ use Rattle.verdict.proofs.Stops.{settled, head_stops, readings_stop}
 use Rattle.verdict.proofs.opening.check_given.Goals as goal
 
 pub returns-in-Err : goal.returns-in-Err
-returns-in-Err c = λ k. rw c.fault-from.ensures (head_stops k (figures_of c.args.contents.now) c.in-Err.refusal (refused _ _ _ c.in-Err.ensures))
+returns-in-Err c = λ k. rw c.fault_from.ensures (head_stops k (figures_of c.args.contents.now) c.in-Err.refusal (refused _ _ _ c.in-Err.ensures))
 
-pub returns-in-Err-check-readings : goal.returns-in-Err-check-readings
-returns-in-Err-check-readings c = λ k.
+pub returns-in-Err-check_readings : goal.returns-in-Err-check_readings
+returns-in-Err-check_readings c = λ k.
     let contents = c.args.contents.now in
     let g = figures_of contents in
-    let r = c.in-Err-check-readings.refusal in
-    let no_because = subst (λ (n : ℕ). readings_no (take n contents.readings) ≡ Some r) (sub-zero contents.head.readings) (refused _ _ _ c.in-Err-check-readings.ensures) in
-    rw c.fault-from-in-Err-check-readings.ensures (readings_stop k g (clear_head k g (settled g.head (passed _ _ _ c.in-default.ensures))) (omega (arith, readings_held contents, contents.few)) r no_because)
+    let r = c.in-Err-check_readings.refusal in
+    let no_because = subst (λ (n : ℕ). readings_no (take n contents.readings) ≡ Some r) (sub-zero contents.head.readings) (refused _ _ _ c.in-Err-check_readings.ensures) in
+    rw c.fault_from-in-Err-check_readings.ensures (readings_stop k g (clear_head k g (settled g.head (passed _ _ _ c.in_default.ensures))) (omega (arith, readings_held contents, contents.few)) r no_because)

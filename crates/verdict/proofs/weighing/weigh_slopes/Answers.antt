@@ -25,4 +25,4 @@ returns-in-Err g c =
     let contents = c.args.contents.now in
     let r = c.in-Err.refusal in
     let no_because = slopes_handed (λ (h : ℤ) (xs : List Reading) (d : ℤ) (ms : List ℤ). weigh_multipliers_no k h xs d ms 240 ≡ Some r) contents c.requires.ready.given.head (refused _ _ _ c.in-Err.ensures.answered) in
-    rw c.fault-from.ensures (slopes_stop k (figures_of contents) c.requires.ready law c.requires.values r c.first-line.result (λ e. omega (arith, c.first-line.ensures.multiplier e, readings_held contents, entries_held contents)) c.first-line.ensures.column no_because)
+    rw c.fault_from.ensures (slopes_stop k (figures_of contents) c.requires.ready law c.requires.values r c.first_line.result (λ e. omega (arith, c.first_line.ensures.multiplier e, readings_held contents, entries_held contents)) c.first_line.ensures.column no_because)

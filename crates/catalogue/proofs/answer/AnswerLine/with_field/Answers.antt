@@ -6,15 +6,15 @@ use Rattle.catalogue.proofs.answer.AnswerLine.with_field.Goals as goal
 
 pub invariant-of-result : goal.invariant-of-result
 invariant-of-result c =
-    let put : c.write-field.new.place ≡ field c.args.width c.args.figure = part_field c.args.self.bytes _ c.args.self.count c.args.width _ (omega arith) c.write-field.ensures in
+    let put : c.write_field.new.place ≡ field c.args.width c.args.figure = part_field c.args.self.bytes _ c.args.self.count c.args.width _ (omega arith) c.write_field.ensures in
     let size = ap length put ∙ field_length c.args.width c.args.figure in
-    (part_length c.args.self.bytes c.write-field.new.place c.args.self.count (c.args.self.count + c.args.width - c.args.self.count) (omega arith) (omega arith) ∙ c.args.self.room, (c.requires, tt))
+    (part_length c.args.self.bytes c.write_field.new.place c.args.self.count (c.args.self.count + c.args.width - c.args.self.count) (omega arith) (omega arith) ∙ c.args.self.room, (c.requires, tt))
 
 pub returns : goal.returns
 returns c =
-    let put : c.write-field.new.place ≡ field c.args.width c.args.figure = part_field c.args.self.bytes _ c.args.self.count c.args.width _ (omega arith) c.write-field.ensures in
+    let put : c.write_field.new.place ≡ field c.args.width c.args.figure = part_field c.args.self.bytes _ c.args.self.count c.args.width _ (omega arith) c.write_field.ensures in
     let size = ap length put ∙ field_length c.args.width c.args.figure in
     record {
       count = refl;
-      text = line_part c.args.self.bytes c.write-field.new.place c.args.self.count _ (c.args.self.count + c.args.width) (omega arith) (omega arith) ∙ ap (λ t. take c.args.self.count c.args.self.bytes ++ t) put;
+      text = line_part c.args.self.bytes c.write_field.new.place c.args.self.count _ (c.args.self.count + c.args.width) (omega arith) (omega arith) ∙ ap (λ t. take c.args.self.count c.args.self.bytes ++ t) put;
     }
