@@ -8,6 +8,6 @@ pub returns : goal.returns
 returns c =
     let told = c.args.contents.now in
     let fits : SFits w64 c.args.contents.now.floor = search rules in
-    let signed : c.cast-unsigned.result ≡ of_z w64 c.args.contents.now.floor = c.cast-unsigned.ensures ∙ ap (of_z w64) (to_z-of_z w64 c.args.contents.now.floor fits) in
+    let signed : c.cast_unsigned.result ≡ of_z w64 c.args.contents.now.floor = c.cast_unsigned.ensures ∙ ap (of_z w64) (to_z-of_z w64 c.args.contents.now.floor fits) in
     let last = c.with_field-4.ensures.text ∙ ap (λ x. take c.with_field-3.result.count c.with_field-3.result.bytes ++ field 16 x) signed in
     four_fields 65 65 (field 4 told.head.readings) (field 4 told.head.denominator) (field 16 told.cost) c.new.ensures.text c.with_byte.ensures.text c.with_byte-2.ensures.text c.with_field.ensures.text c.with_field-2.ensures.text c.with_field-3.ensures.text (field 16 (of_z w64 told.floor)) last c.with_byte-3.ensures.text

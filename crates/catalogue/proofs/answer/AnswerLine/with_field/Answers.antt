@@ -4,11 +4,14 @@ use Rattle.digits.proofs.Fields.{field_length}
 use Rattle.catalogue.proofs.Lining.{line_part, part_field, part_length}
 use Rattle.catalogue.proofs.answer.AnswerLine.with_field.Goals as goal
 
-pub invariant-of-result : goal.invariant-of-result
-invariant-of-result c =
+pub invariant_of-result : goal.invariant_of-result
+invariant_of-result c =
     let put : c.write_field.new.place ≡ field c.args.width c.args.figure = part_field c.args.self.bytes _ c.args.self.count c.args.width _ (omega arith) c.write_field.ensures in
     let size = ap length put ∙ field_length c.args.width c.args.figure in
-    (part_length c.args.self.bytes c.write_field.new.place c.args.self.count (c.args.self.count + c.args.width - c.args.self.count) (omega arith) (omega arith) ∙ c.args.self.room, (c.requires, tt))
+    record {
+      room = part_length c.args.self.bytes c.write_field.new.place c.args.self.count (c.args.self.count + c.args.width - c.args.self.count) (omega arith) (omega arith) ∙ c.args.self.room;
+      within = c.requires;
+    }
 
 pub returns : goal.returns
 returns c =
