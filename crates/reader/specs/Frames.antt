@@ -1,8 +1,8 @@
 -- Which frame stands in which line.
 --     stage_at        what line j behind the head has to be, of n readings and m multipliers
 --     lead, size      how the frame of a stage begins, with its number and its place, and how many digits it has
---     InTurn         that a line is the frame that a stage waits for
---     HeadIs         that a line is a head, of an edition and figures
+--     InTurn          that a line is the frame that a stage waits for
+--     HeadIs          that a line is a head, of an edition and figures
 --     reach_of, Agrees, Like     the reach that is wanted; that a head has the marks, and the edition, that are wanted
 --     Disorder        the faults of the frames: of lines, at a line from 1 and a turn there, with their cause
 -- Where no marks are wanted, no head agrees.

@@ -1,5 +1,5 @@
 -- A head that is read from its fields.
---     HeadRead       that figures are the numbers that the fields of a head write
+--     HeadRead        that figures are the numbers that the fields of a head write
 use Rattle.archive.specs.declared.figures.Head.{Head}
 use Rattle.digits.specs.Fields.{Number}
 use Rattle.reader.specs.declared.frames.HeadFields.{HeadFields}

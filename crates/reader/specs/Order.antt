@@ -1,6 +1,6 @@
 -- What the second layer finds.
---     FirstDisorder  that a fault is the first of those of the frames
---     FramesRead     figures in form of which the bytes are the file; or the first fault of the frames
+--     FirstDisorder   that a fault is the first of those of the frames
+--     FramesRead      figures in form of which the bytes are the file; or the first fault of the frames
 use Rattle.std.specs.Prelude.{◌≡◌, ℕ, ◌<◌, ◌⊎◌, List, Ok, Err, Option, Result}
 use Rattle.kinds.specs.declared.refusal.Cause.{Cause}
 use Rattle.archive.specs.File.{file}

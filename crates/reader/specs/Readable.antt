@@ -1,10 +1,10 @@
 -- Which bytes can be read, and as what.
 --     figures_of      the figures that contents hold; what their lists have behind these is left open, and means nothing
---     InForm         figures of which there is a file with the marks and the reach that are wanted
+--     InForm          figures of which there is a file with the marks and the reach that are wanted
 --     Unreadable      the faults of lines and frames, at their ranks
---     ReadAs         bytes are the file of the contents, which are in form; or the answer is the first fault
+--     ReadAs          bytes are the file of the contents, which are in form; or the answer is the first fault
 --     Gives           an answer has these figures
---     ComesBack      figures in form are read from their file as they were
+--     ComesBack       figures in form are read from their file as they were
 use Rattle.std.specs.Prelude.{◌≡◌, ℕ, suc, ◌-◌, ◌<◌, ◌≤◌, List, length, take, Ok, Err, Option, Result}
 use Rattle.kinds.specs.declared.refusal.Cause.{Cause}
 use Rattle.kinds.specs.declared.refusal.Cause.TheVariants.{Line}

@@ -5,11 +5,11 @@
 --     Put             figures with the line of one stage put in: that of every other stage is as it was
 --     Running         a machine behind the head: it waits for what has to come after the lines it took
 --     Steady          a machine that waits for the head, or is running; `SteadyAt` by its stage
---     HeadTaken      a head that the machine takes
---     HeadOff        why a head is refused: its edition or marks, too many readings, or too few
---     HeadChecked    what the check of a head answers: the number of multipliers, or the fault
---     HeadRefused    a line that is refused as the head, with the fault
---     LineTaken      a later line that the machine takes
+--     HeadTaken       a head that the machine takes
+--     HeadOff         why a head is refused: its edition or marks, too many readings, or too few
+--     HeadChecked     what the check of a head answers: the number of multipliers, or the fault
+--     HeadRefused     a line that is refused as the head, with the fault
+--     LineTaken       a later line that the machine takes
 --     HeadStepped, LineStepped     a step at the head, and behind it
 --     Stepped         one step: of the line, its number, the machine before and after, and the answer; `SteppedAt` by stage
 use Rattle.std.specs.Prelude.{◌≡◌, ℕ, ◌+◌, ◌-◌, ◌<◌, ◌≤◌, Bool, true, ◌⊎◌, List, [], pos, Ok, Err, Option, Result, ◌≢◌, slice_index_or}

@@ -1,9 +1,9 @@
 -- What the line reader does, turn by turn.
 --     is_known        whether a byte is a digit or an end byte
 --     Known           that all bytes are
---     BadStart       that the first line of bytes is broken, where there are bytes
+--     BadStart        that the first line of bytes is broken, where there are bytes
 --     Next            one turn: from a reader to the reader afterwards, with its answer
---     FirstBroken    that a fault names the first broken line
+--     FirstBroken     that a fault names the first broken line
 use Rattle.std.specs.Prelude.{◌≡◌, ℕ, suc, ◌+◌, ◌<◌, Bool, true, ◌||◌, ◌⊎◌, List, [], ◌∷◌, ◌++◌, length, Some, None, Ok, Err, Option, Result, ◌==◌, ◌≢◌, slice_index_or}
 use Rattle.std.specs.Borrow.{Bor}
 use Rattle.std.specs.List.{AllByRecursion}
