@@ -4,9 +4,8 @@ ghost use Rattle.kinds.specs.Checks.{answer};
 ghost use Rattle.known.specs.Known.{penalty_meaning, made_meaning, PenaltyOf};
 ghost use Rattle.penalties.specs.Settings.{sides_no};
 ghost use Rattle.penalties.specs.Sides.{absolute, lopsided};
-ghost use Rattle.std.proofs.Common.{arith};
 ghost use Rattle.known.specs.declared.penalty.KnownPenalty.TheVariants.{Absolute, Lopsided};
-ghost use Rattle.penalties.specs.Kept.{sided_kept};
+ghost use Rattle.penalties.specs.Kept.{absolute_kept, lopsided_kept};
 
 use kinds::penalty::Penalty;
 use kinds::refusal::Refusal;
@@ -68,8 +67,8 @@ impl Penalty for KnownPenalty {
     ghost meaning = { penalty_meaning };
 
     ghost kept = { elim [
-      | Absolute k ↦ sided_kept 0 1 1 (omega arith)
-      | Lopsided k ↦ sided_kept _ k.rise k.fall (omega (arith, k.rises, k.falls))
+      | Absolute k ↦ absolute_kept
+      | Lopsided k ↦ lopsided_kept k.rise k.fall k.rises.1 k.falls.1
     ] };
 
     fn steepness(&self) -> u32 {

@@ -1,10 +1,10 @@
 -- Penalties with two sides keep the laws of penalties.
-use Rattle.std.specs.Prelude.{◌≡◌, ℕ, zero, suc, ◌*◌, ◌≤◌, max, true, ◌&&◌, ℤ, pos, negsuc, ◌*ℤ◌, neg_ℤ, ◌≤ℤ◌, int_le, unsigned_abs}
+use Rattle.std.specs.Prelude.{◌≡◌, ℕ, zero, suc, ◌+◌, ◌*◌, ◌≤◌, max, true, ◌&&◌, ℤ, pos, negsuc, ◌*ℤ◌, neg_ℤ, ◌≤ℤ◌, int_le, unsigned_abs}
 use Rattle.std.proofs.Common.{arith, mul-le-mul_right}
 use Rattle.std.proofs.lemmas.Int.{ints}
 use Rattle.kinds.specs.Penalty.{PenaltyLaws}
 use Rattle.kinds.proofs.Ring.{neg_mul}
-use Rattle.penalties.specs.Sides.{sided_cost, is_between, end_touched, sided}
+use Rattle.penalties.specs.Sides.{sided_cost, is_between, end_touched, sided, absolute, lopsided}
 
 -- Slopes between two ends, the lower one below 0 and the upper one above.
 between_high : (low high : ℕ) (n : ℕ) → (int_le (neg_ℤ (pos low)) (pos n) && int_le (pos n) (pos high)) ≡ true → n ≤ high
@@ -58,3 +58,9 @@ sided_kept m rise fall h = record {
     slope_most : (w d : ℕ) (s : ℤ) → is_between rise fall w d s ≡ true → unsigned_abs s ≤ max rise fall * d * w
     slope_most w d (pos n) e = omega (arith, between_high (d * w * fall) (d * w * rise) n e, mul-le-mul_right (d * w) rises)
     slope_most w d (negsuc n) e = omega (arith, between_low (d * w * fall) (d * w * rise) n e, mul-le-mul_right (d * w) falls)
+
+pub absolute_kept : PenaltyLaws absolute
+absolute_kept = sided_kept 0 1 1 (omega arith)
+
+pub lopsided_kept : (rise fall : ℕ) → rise ≤ 100 → fall ≤ 100 → PenaltyLaws (lopsided rise fall)
+lopsided_kept rise fall r f = sided_kept (65536 + 256 * rise + fall) rise fall (omega arith)

@@ -1,7 +1,6 @@
 // The kind of penalty that counts the size of a residual.
 ghost use Rattle.penalties.specs.Sides.{absolute};
-ghost use Rattle.std.proofs.Common.{arith};
-ghost use Rattle.penalties.specs.Kept.{sided_kept};
+ghost use Rattle.penalties.specs.Kept.{absolute_kept};
 
 use crate::sides;
 use kinds::penalty::Penalty;
@@ -17,7 +16,7 @@ pub struct Absolute;
 impl Penalty for Absolute {
     ghost meaning = { λ k. absolute };
 
-    ghost kept = { λ k. sided_kept 0 1 1 (omega arith) };
+    ghost kept = { λ k. absolute_kept };
 
     fn steepness(&self) -> u32 {
         SIDE

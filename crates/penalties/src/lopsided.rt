@@ -3,8 +3,7 @@ ghost use Rattle.std.specs.Prelude.{◌≡◌, ◌+◌, ◌*◌, ◌≤◌};
 ghost use Rattle.kinds.specs.Checks.{answer};
 ghost use Rattle.penalties.specs.Settings.{sides_no, sides_made};
 ghost use Rattle.penalties.specs.Sides.{lopsided};
-ghost use Rattle.std.proofs.Common.{arith};
-ghost use Rattle.penalties.specs.Kept.{sided_kept};
+ghost use Rattle.penalties.specs.Kept.{lopsided_kept};
 
 use crate::sides;
 use kinds::penalty::Penalty;
@@ -44,7 +43,7 @@ impl Lopsided {
 impl Penalty for Lopsided {
     ghost meaning = { λ k. lopsided k.rise k.fall };
 
-    ghost kept = { λ k. sided_kept (65536 + 256 * k.rise + k.fall) k.rise k.fall (omega arith) };
+    ghost kept = { λ k. lopsided_kept k.rise k.fall k.rises.1 k.falls.1 };
 
     fn steepness(&self) -> u32 {
         self.rise.max(self.fall)
