@@ -1,5 +1,5 @@
 -- Every run of the calls that is ended wrote the file of the figures that were taken.
---     SoFar           what a run has written: bytes at the start of the place, and where it stands
+--     SoFar            what a run has written: bytes at the start of the place, and where it stands
 --     list_so_far      a run on one list adds the frames of that list
 --     every_run_writes the whole
 use Rattle.std.proofs.Common.{◌≡◌, ℕ, ◌+◌, Bool, List, ◌++◌, length, ℤ, Result, sym, ap, ◌∙◌, subst, append_assoc}

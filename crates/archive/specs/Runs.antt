@@ -1,7 +1,7 @@
 -- Runs of the calls that write a file, whoever makes them, refused calls among them.
---     ListRun         a run of calls on one list: how it starts, what each call does, and the figures that were taken
---     ReadingsRun     a run from a head that was taken on, through the readings
---     EntriesRun      the same through the entries, MultipliersRun through the multipliers
+--     ListRun          a run of calls on one list: how it starts, what each call does, and the figures that were taken
+--     ReadingsRun      a run from a head that was taken on, through the readings
+--     EntriesRun       the same through the entries, MultipliersRun through the multipliers
 --     WholeRun        a run that is ended: the figures that were handed over and taken, the stage and the place afterwards
 --     EveryRunWrites  that every such run wrote the file of these figures at the start of the place, and nothing else there
 use Rattle.std.specs.Prelude.{◌≡◌, ℕ, List, [], ◌∷◌, ◌++◌, ℤ, Ok, Err, Result}

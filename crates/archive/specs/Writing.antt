@@ -10,7 +10,7 @@
 --                       of a list share, and `readings_no` asks whether as many frames are written as there are readings
 --     Taken, Returned   what a call leaves that is taken, and one that is refused
 --     Steps             the answer of a call that writes a frame; Next says what its new stage is
---     HeadStep, ReadingStep, EntryStep, MultiplierStep, EndStep      the answer of each call that writes a frame;
+--     HeadStep, ReadingStep, EntryStep, MultiplierStep, EndStep           the answer of each call that writes a frame;
 --                       `FrameStep` is what those of a list share
 --     ListStep          the answer of a call that leads on to the next list
 --     all_fit           whether a test holds of a whole list

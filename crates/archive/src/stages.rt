@@ -13,14 +13,21 @@ pub struct Progress {
     pub(crate) next: usize,
 }
 
+// Keeps other modules from making stages of their own.
+mod sealed {
+    pub trait Sealed {}
+}
+
 // What a stage says of a file that is at it: whether the file may be let go.
-pub trait Stage {
+pub trait Stage: sealed::Sealed {
     ghost may_be_let_go: { Type 0 };
 }
 
 // Nothing is written yet.
 #[derive(Clone, Copy)]
 pub struct Opened;
+
+impl sealed::Sealed for Opened {}
 
 impl Stage for Opened {
     ghost may_be_let_go = { ⊥ };
@@ -30,12 +37,16 @@ impl Stage for Opened {
 #[derive(Clone, Copy)]
 pub struct AtReadings;
 
+impl sealed::Sealed for AtReadings {}
+
 impl Stage for AtReadings {
     ghost may_be_let_go = { ⊥ };
 }
 
 #[derive(Clone, Copy)]
 pub struct AtEntries;
+
+impl sealed::Sealed for AtEntries {}
 
 impl Stage for AtEntries {
     ghost may_be_let_go = { ⊥ };
@@ -44,13 +55,17 @@ impl Stage for AtEntries {
 #[derive(Clone, Copy)]
 pub struct AtMultipliers;
 
+impl sealed::Sealed for AtMultipliers {}
+
 impl Stage for AtMultipliers {
     ghost may_be_let_go = { ⊥ };
 }
 
-// The file is ended or scratched. No other module can lead a file here.
+// The file is ended or scratched. No other module can lead a file here, or to any stage at which it may be let go.
 #[derive(Clone, Copy)]
 struct Closed;
+
+impl sealed::Sealed for Closed {}
 
 impl Stage for Closed {
     ghost may_be_let_go = { Unit {0} };

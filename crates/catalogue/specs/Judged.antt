@@ -1,10 +1,10 @@
 -- What is answered about a file whose kinds are told by marks.
 --     Marked           that three known kinds have these marks, of what the kinds mean
---     TurnedDown      the answer where no known kinds have the marks: the fault that comes first, as no head agrees then
+--     TurnedDown       the answer where no known kinds have the marks: the fault that comes first, as no head agrees then
 --     Judged           the answer about a file under three marks
 --     head_of          line 1 of a file
 --     Stands           that marks, if a file has a head, are those that stand in it
---     JudgedByHead   the answer about a file under the marks that its own head has
+--     JudgedByHead     the answer about a file under the marks that its own head has
 use Rattle.std.specs.Prelude.{◌≡◌, ℕ, List, [], Some, None, Ok, Err, Option, Result, slice_index_or}
 use Rattle.objective.specs.Objective.{KindsMeaning, three}
 use Rattle.archive.specs.declared.figures.Head.{Head}

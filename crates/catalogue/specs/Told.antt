@@ -3,7 +3,7 @@
 --     refused_text     EE, then layer, number and line of a fault
 --     answer_text      the digits of an answer
 --     answer_line      these with the end byte
---     LineTold        that a line is that of the answer about a file under the marks that its own head has
+--     LineTold         that a line is that of the answer about a file under the marks that its own head has
 --     packed           0 for a file that is accepted, else layer, number and line in one number
 --     Tells            that a number is the answer about a file under three marks
 -- Fields are in the widths that they have in a file. `of_z w64` is the remainder by 2^64.

@@ -1,6 +1,6 @@
 -- What a kind of penalty means, the laws that it keeps, and how it answers.
---     PenaltyMeaning       steepness, mark, cost, allowed slopes and a touching slope
---     PenaltyLaws          the slope law, the touch law and the bounds of cost and slopes
+--     PenaltyMeaning        steepness, mark, cost, allowed slopes and a touching slope
+--     PenaltyLaws           the slope law, the touch law and the bounds of cost and slopes
 --     Weight, Denominator   the weights and denominators of which the laws speak
 --     is_weight, is_denominator, is_residual, is_slope     whether a figure is within the limits of an answer
 --     cost_answer, allows_answer, touch_answer     what a kind answers: its meaning within the limits, and none outside

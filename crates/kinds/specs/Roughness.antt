@@ -1,6 +1,6 @@
 -- What a kind of roughness means, the laws that it keeps, and how its two maps answer.
 --     RoughnessMeaning     reach, growth, mark, and the two maps: values to rows (forward), multipliers to columns (back)
---     RoughnessLaws        the adjoint identity, the growth law, and how long rows and columns are
+--     RoughnessLaws         the adjoint identity, the growth law, and how long rows and columns are
 --     told_reach, told_growth     what the kind tells: its reach up to 241, its growth up to 2,001
 --     told_no         the checks of a map, from the growth and reach that a kind tells
 --     map_no          the checks of forward and of back, of a kind

@@ -8,7 +8,7 @@
 --     passes, offered 1 where checks pass, else 0; those of the multiplier −1 over a denominator
 --     touched, allowed     the touching slope at a residual; 1 where a slope is allowed, else 0
 --     cases           the table of cases
---     AllHold        that each case of a table gives what it is to give
+--     AllHold         that each case of a table gives what it is to give
 -- `negsuc n` is the whole number n + 1 below 0, so −30 is `negsuc 29`.
 use Rattle.std.specs.Prelude.{◌≡◌, ℕ, cond, List, [], ◌∷◌, ℤ, pos, negsuc, Some, None, Option}
 use Rattle.kinds.specs.declared.reading.Reading.{Reading}

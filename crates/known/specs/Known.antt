@@ -4,7 +4,7 @@
 --     raised_times          a roughness raised so many times
 --     Raises                a call that makes a roughness, raised so many times, and none above a limit
 --     made_meaning          what the penalty means that a call made, or its refusal
---     RoughnessOf, PenaltyOf      the known kind of a mark; none where no known kind has that mark
+--     RoughnessOf, PenaltyOf        the known kind of a mark; none where no known kind has that mark
 use Rattle.std.specs.Prelude.{◌≡◌, ℕ, zero, suc, ◌<◌, ◌≤◌, Some, None, Ok, Err, Option, Result, ◌≢◌}
 use Rattle.kinds.specs.declared.refusal.Refusal.{Refusal}
 use Rattle.kinds.specs.Penalty.{PenaltyMeaning}

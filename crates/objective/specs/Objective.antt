@@ -1,6 +1,6 @@
 -- Cost, floor and gap, for any three kinds and for tables of whole numbers of any size.
---     KindsMeaning     a roughness, the penalty of the misfit and the penalty of the bends; `three` puts them together
---     KindsLaws        that the three keep their laws
+--     KindsMeaning      a roughness, the penalty of the misfit and the penalty of the bends; `three` puts them together
+--     KindsLaws         that the three keep their laws
 --     minutes, crudes   the minutes and the crude values of readings
 --     misfit_cost       what the residuals cost: table value minus crude value, at the reading's weight
 --     bend_cost         what rows cost at a stiffness
@@ -9,7 +9,7 @@
 --     floor_of          the floor of multipliers: the sum of column times crude value
 --     LawfulMultipliers      each multiplier is an allowed slope of the bends at the stiffness, and each column, negated, an
 --                       allowed slope of the misfit at its reading's weight
---     BendsAllow, MisfitsAllow      the two parts of that, of multipliers and of columns
+--     BendsAllow, MisfitsAllow        the two parts of that, of multipliers and of columns
 --     gap_of            D times the cost, less the floor
 --     within            whether the gap is at most D times the allowance
 -- A lawful weight, stiffness or denominator is no negative number, so `unsigned_abs` takes nothing away from it.

@@ -1,7 +1,7 @@
 -- What the two weighing calls promise.
---     WeighsTable          the cost of a table, and its rows in the caller's place
---     NoTableBeats        a floor holds for every table: D times its cost is at least the floor
---     NearBest             a table whose gap is within an allowance costs at most that much more than any other
+--     WeighsTable           the cost of a table, and its rows in the caller's place
+--     NoTableBeats          a floor holds for every table: D times its cost is at least the floor
+--     NearBest              a table whose gap is within an allowance costs at most that much more than any other
 --     Given                 a stiffness, readings and a denominator that are in order
 --     WeighsMultipliers    the floor of multipliers and their columns in the caller's place; that those which are accepted are
 --                           lawful, and lawful ones accepted; and what the floor of lawful ones says of every table

@@ -1,5 +1,5 @@
 -- How bytes fall into lines.
---     NoEnd          bytes without an end byte
+--     NoEnd           bytes without an end byte
 --     Upto            t lines of bytes were good, and the rest is left
 --     whole_known     where no line is broken, all bytes are digits or end bytes
 use Rattle.std.proofs.Common.{◌≡◌, ℕ, zero, suc, ◌+◌, ◌-◌, ◌<◌, ◌≤◌, true, false, cond, eqb, List, [], ◌∷◌, ◌++◌, length, get_or, take, drop, sym, refl, ap, ◌∙◌, subst, inl, inr, ⊎_elim, add-zero, arith, length-append, length-drop, below_more}

@@ -4,7 +4,7 @@
 --     is_form         this form where pair and number of digits are those, else another
 --     form            which frame a line is, by its leading pair and how many digits follow
 --     frame_text      the line of a frame
---     HeadShaped, Shaped     that the fields of a head, of a frame, have their widths
+--     HeadShaped, Shaped      that the fields of a head, of a frame, have their widths
 --     NoFrame         that a line is no frame
 use Rattle.std.specs.Prelude.{◌≡◌, ℕ, ◌+◌, cond, ◌&&◌, List, ◌∷◌, ◌++◌, length, ◌==◌}
 use Rattle.digits.specs.Fields.{Digits}

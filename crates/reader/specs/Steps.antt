@@ -10,7 +10,7 @@
 --     HeadChecked     what the check of a head answers: the number of multipliers, or the fault
 --     HeadRefused     a line that is refused as the head, with the fault
 --     LineTaken       a later line that the machine takes
---     HeadStepped, LineStepped     a step at the head, and behind it
+--     HeadStepped, LineStepped       a step at the head, and behind it
 --     Stepped         one step: of the line, its number, the machine before and after, and the answer; `SteppedAt` by stage
 use Rattle.std.specs.Prelude.{◌≡◌, ℕ, ◌+◌, ◌-◌, ◌<◌, ◌≤◌, Bool, true, ◌⊎◌, List, [], pos, Ok, Err, Option, Result, ◌≢◌, slice_index_or}
 use Rattle.kinds.specs.declared.reading.Reading.{Reading as NotedReading}

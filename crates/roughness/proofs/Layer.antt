@@ -1,5 +1,5 @@
 -- A layer over a kind: once the layer's checks have passed, so do those of the kind below, and its rows or columns are as they should be.
---     ForwardPassed, BackPassed     what the layer's checks tell when they pass
+--     ForwardPassed, BackPassed       what the layer's checks tell when they pass
 --     Lower                           what the rows of the kind below are, as they stand in a place
 use Rattle.std.proofs.Common.{◌≡◌, ℕ, ◌+◌, ◌-◌, ◌*◌, ◌<◌, ◌≤◌, List, length, take, ℤ, pos, None, Ok, Err, Option, Result, sym, ap, ◌∙◌, mul-le-mul_right, mul-le-mul_left, arith}
 use Rattle.kinds.specs.declared.refusal.Refusal.{Refusal}

@@ -1,11 +1,11 @@
 -- The checks of the figures, stage by stage.
 --     head_no         the settings and the denominator of a head
---     InOrder        a head and readings that are in order
+--     InOrder         a head and readings that are in order
 --     Ready           figures in form, under kinds that are in order, whose head and readings are in order
 --     Tabled          the cost of entries that are in range
 --     Floored         the floor of multipliers that pass all their checks, and what it says of every table
---     EndFine        cost and floor are those that are stated, and the gap is within the allowance
---     EndOff         the first fault of the end, where they are not
+--     EndFine         cost and floor are those that are stated, and the gap is within the allowance
+--     EndOff          the first fault of the end, where they are not
 use Rattle.std.specs.Prelude.{◌≡◌, ℕ, true, false, [], ◌∷◌, ℤ, pos, None, Option}
 use Rattle.kinds.specs.declared.refusal.Cause.TheVariants.{Denominator, Gap, Stated}
 use Rattle.kinds.specs.declared.refusal.Refusal.{Refusal}

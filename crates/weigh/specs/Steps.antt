@@ -1,5 +1,5 @@
 -- What a call leaves, by its checks.
---     EitherWay      one thing where the checks pass, another where they refuse
+--     EitherWay       one thing where the checks pass, another where they refuse
 use Rattle.std.specs.Prelude.{Some, None, Option}
 use Rattle.kinds.specs.declared.refusal.Refusal.{Refusal}
 
