@@ -16,7 +16,7 @@ pub loop-slot-preserved : goal.loop-slot-preserved
 loop-slot-preserved c =
     let f : SFits w64 c.in-Some.next = search rules in
     written_more _ _ _ _ _ c.loop-slot.invariant c.in-Some.next _ _ (omega arith) c.in-Some.ensures.first
-    c.next_figure.ensures.others (to_z-of_z w64 c.in-Some.next f)
+    c.next_as.ensures.others (to_z-of_z w64 c.in-Some.next f)
 
 pub returns : goal.returns
 returns c = written_full _ _ _ _ _ c.loop-slot.invariant (omega arith) c.loop-slot.auto.place
