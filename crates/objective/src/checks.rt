@@ -2,9 +2,8 @@
 ghost use Rattle.std.specs.Prelude.{◌≡◌};
 ghost use Rattle.kinds.specs.Checks.{answer};
 ghost use Rattle.objective.specs.Checks.{kinds_no, settings_no, reading_no, readings_no};
-ghost use Rattle.objective.specs.Objective.{three};
 
-use crate::trio::Kinds;
+use crate::trio::{Kinds, Meant};
 use kinds::minutes::may_come;
 use kinds::penalty::Penalty;
 use kinds::reading::Reading;
@@ -15,7 +14,7 @@ use kinds::roughness::Roughness;
 pub fn check_kinds<R: Roughness, M: Penalty, B: Penalty>(
     kinds: &Kinds<R, M, B>,
 ) -> Result<(), Refusal>
-    ensures { result ≡ answer (kinds_no (three (R.Roughness.meaning kinds.now.roughness) (M.Penalty.meaning kinds.now.misfit) (B.Penalty.meaning kinds.now.bend))) tt }
+    ensures { result ≡ answer (kinds_no (⟦<Kinds<R, M, B> as Meant>⟧.meaning kinds.now)) tt }
 {
     let growth = kinds.roughness.growth();
     let misfit = kinds.misfit.steepness();
@@ -33,7 +32,7 @@ pub fn check_kinds<R: Roughness, M: Penalty, B: Penalty>(
 pub fn check_settings(stiffness: i64, allowance: i64) -> Result<(), Refusal>
     ensures { result ≡ answer (settings_no stiffness allowance) tt }
 {
-    if stiffness < 1 || stiffness > 1000 || allowance < 0 || allowance > 1_000_000_000_000 {
+    if !(1..=1000).contains(&stiffness) || !(0..=1_000_000_000_000).contains(&allowance) {
         return Err(Refusal {
             cause: Cause::Setting,
             place: 0,
@@ -57,7 +56,7 @@ pub fn check_reading(
             place,
         });
     }
-    if reading.crude < 0 || reading.crude > 20_000 || reading.weight < 0 || reading.weight > 100 {
+    if !(0..=20_000).contains(&reading.crude) || !(0..=100).contains(&reading.weight) {
         return Err(Refusal {
             cause: Cause::Figure,
             place,

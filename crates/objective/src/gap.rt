@@ -20,13 +20,13 @@ pub struct Gap {
 pub fn gap_between(cost: u64, floor: i64, denominator: i64, allowance: i64) -> Result<Gap, Refusal>
     ensures { result ≡ answer (gap_no denominator allowance) (gap_told cost floor (unsigned_abs denominator) (unsigned_abs allowance)) }
 {
-    if allowance < 0 || allowance > 1_000_000_000_000 {
+    if !(0..=1_000_000_000_000).contains(&allowance) {
         return Err(Refusal {
             cause: Cause::Setting,
             place: 0,
         });
     }
-    if denominator < 1 || denominator > 1000 {
+    if !(1..=1000).contains(&denominator) {
         return Err(Refusal {
             cause: Cause::Denominator,
             place: 0,

@@ -1,13 +1,12 @@
 // The checks of a table and of multipliers that are weighed.
-ghost use Rattle.std.specs.Prelude.{◌≡◌, ◌≤◌, true, length, None, unsigned_abs};
+ghost use Rattle.std.specs.Prelude.{◌≡◌, ◌≤◌, true, not, length, None, unsigned_abs};
 ghost use Rattle.kinds.specs.Checks.{answer, located, first_off};
 ghost use Rattle.kinds.specs.Figures.{largest};
 ghost use Rattle.kinds.specs.Penalty.{is_weight, is_denominator};
 ghost use Rattle.objective.specs.Checks.{is_stiffness, is_value, table_no, multipliers_no, columns_no, readings_no};
-ghost use Rattle.objective.specs.Objective.{three};
 
 use crate::checks::check_kinds;
-use crate::trio::Kinds;
+use crate::trio::{Kinds, Meant};
 use kinds::penalty::Penalty;
 use kinds::reading::Reading;
 use kinds::refusal::{Cause, Refusal};
@@ -26,19 +25,18 @@ fn check_found(cause: Cause, found: Option<usize>) -> Result<(), Refusal>
 fn is_value(value: i64) -> bool
     ensures { result ≡ is_value value }
 {
-    0 <= value && value <= 20_000
+    (0..=20_000).contains(&value)
 }
 
 // The first value that no table may hold.
 fn first_off_value(values: &[i64]) -> Option<usize>
     ensures { result ≡ first_off is_value values.now }
 {
-    for (place, value) in values.iter().enumerate() {
-        if !is_value(*value) {
-            return Some(place);
-        }
-    }
-    None
+    values.iter().position(
+        |value| -> bool
+            ensures { result ≡ not (is_value value.now) }
+        { !is_value(*value) },
+    )
 }
 
 // A table for n readings, and the room that its rows need.
@@ -48,7 +46,7 @@ pub(crate) fn check_table<R: Roughness, M: Penalty, B: Penalty>(
     table: &[i64],
     room: usize,
 ) -> Result<(), Refusal>
-    ensures { result ≡ answer (table_no (three (R.Roughness.meaning kinds.now.roughness) (M.Penalty.meaning kinds.now.misfit) (B.Penalty.meaning kinds.now.bend)) n table.now room) tt }
+    ensures { result ≡ answer (table_no (⟦<Kinds<R, M, B> as Meant>⟧.meaning kinds.now) n table.now room) tt }
 {
     check_kinds(kinds)?;
     let reach = kinds.roughness.reach();
@@ -92,12 +90,7 @@ fn first_off_multiplier<P: Penalty>(
     requires divides { is_denominator denominator ≡ true }
     ensures { result ≡ first_off ((P.Penalty.meaning bend.now).allows (unsigned_abs stiffness) (unsigned_abs denominator)) multipliers.now }
 {
-    for (place, multiplier) in multipliers.iter().enumerate() {
-        if !slope_fits(bend, stiffness, denominator, *multiplier) {
-            return Some(place);
-        }
-    }
-    None
+    multipliers.iter().position(|multiplier| !slope_fits(bend, stiffness, denominator, *multiplier))
 }
 
 // Multipliers for n readings, and the room that their columns need.
@@ -110,7 +103,7 @@ pub(crate) fn check_multipliers<R: Roughness, M: Penalty, B: Penalty>(
     room: usize,
 ) -> Result<(), Refusal>
     requires { is_stiffness stiffness ≡ true }
-    ensures { result ≡ answer (multipliers_no (three (R.Roughness.meaning kinds.now.roughness) (M.Penalty.meaning kinds.now.misfit) (B.Penalty.meaning kinds.now.bend)) (unsigned_abs stiffness) n denominator multipliers.now room) tt }
+    ensures { result ≡ answer (multipliers_no (⟦<Kinds<R, M, B> as Meant>⟧.meaning kinds.now) (unsigned_abs stiffness) n denominator multipliers.now room) tt }
 {
     check_kinds(kinds)?;
     let reach = kinds.roughness.reach();
@@ -126,7 +119,7 @@ pub(crate) fn check_multipliers<R: Roughness, M: Penalty, B: Penalty>(
             place: 0,
         });
     }
-    if denominator < 1 || denominator > 1000 {
+    if !(1..=1000).contains(&denominator) {
         return Err(Refusal {
             cause: Cause::Denominator,
             place: 0,

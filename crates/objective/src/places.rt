@@ -22,9 +22,7 @@ pub(crate) fn fill(figures: &[i64], place: &mut [i64])
     requires { length figures.now ≤ length place.old }
     ensures { place.new ≡ over figures.now place.old }
 {
-    for (at, figure) in figures.iter().enumerate() {
-        place[at] = *figure;
-    }
+    place[..figures.len()].copy_from_slice(figures);
 }
 
 // The rows of a table that has passed its checks: the roughness does not refuse it.

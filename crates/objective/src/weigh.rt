@@ -5,14 +5,14 @@ ghost use Rattle.kinds.specs.Figures.{dot, largest};
 ghost use Rattle.kinds.specs.Penalty.{is_denominator};
 ghost use Rattle.kinds.specs.Roughness.{filled};
 ghost use Rattle.objective.specs.Checks.{is_stiffness, is_value, stiffness_no, readings_no, columns_no, weigh_table_no, before_columns_no};
-ghost use Rattle.objective.specs.Objective.{three, crudes, misfit_cost, bend_cost};
+ghost use Rattle.objective.specs.Objective.{crudes, misfit_cost, bend_cost};
 ghost use Rattle.objective.specs.Promises.{WeighsTable, WeighsMultipliers};
 
 use crate::checks::check_readings;
 use crate::offers::{check_columns, check_multipliers, check_table};
 use crate::places::{fill, fill_columns, fill_rows};
 use crate::sums::{bend_sum, floor_sum, misfit_sum};
-use crate::trio::Kinds;
+use crate::trio::{Kinds, Meant};
 use kinds::penalty::Penalty;
 use kinds::reading::Reading;
 use kinds::refusal::{Cause, Refusal};
@@ -21,7 +21,7 @@ use kinds::roughness::Roughness;
 fn check_stiffness(stiffness: i64) -> Result<(), Refusal>
     ensures { result ≡ answer (stiffness_no stiffness) tt }
 {
-    if stiffness < 1 || stiffness > 1000 {
+    if !(1..=1000).contains(&stiffness) {
         return Err(Refusal {
             cause: Cause::Setting,
             place: 0,
@@ -37,7 +37,7 @@ fn check_weigh_table<R: Roughness, M: Penalty, B: Penalty>(
     table: &[i64],
     room: usize,
 ) -> Result<(), Refusal>
-    ensures { result ≡ answer (weigh_table_no (three (R.Roughness.meaning kinds.now.roughness) (M.Penalty.meaning kinds.now.misfit) (B.Penalty.meaning kinds.now.bend)) stiffness readings.now table.now room) tt }
+    ensures { result ≡ answer (weigh_table_no (⟦<Kinds<R, M, B> as Meant>⟧.meaning kinds.now) stiffness readings.now table.now room) tt }
 {
     check_stiffness(stiffness)?;
     check_readings(readings)?;
@@ -74,7 +74,7 @@ pub fn weigh_table<R: Roughness, M: Penalty, B: Penalty>(
     table: &[i64],
     rows: &mut [i64],
 ) -> Result<u64, Refusal>
-    ensures { WeighsTable (three (R.Roughness.meaning kinds.now.roughness) (M.Penalty.meaning kinds.now.misfit) (B.Penalty.meaning kinds.now.bend)) stiffness readings.now table.now rows.old rows.new result }
+    ensures { WeighsTable (⟦<Kinds<R, M, B> as Meant>⟧.meaning kinds.now) stiffness readings.now table.now rows.old rows.new result }
 {
     check_weigh_table(kinds, stiffness, readings, table, rows.len())?;
     fill_rows(&kinds.roughness, readings, table, rows)?;
@@ -98,7 +98,7 @@ fn check_before_columns<R: Roughness, M: Penalty, B: Penalty>(
     multipliers: &[i64],
     room: usize,
 ) -> Result<(), Refusal>
-    ensures { result ≡ answer (before_columns_no (three (R.Roughness.meaning kinds.now.roughness) (M.Penalty.meaning kinds.now.misfit) (B.Penalty.meaning kinds.now.bend)) stiffness readings.now denominator multipliers.now room) tt }
+    ensures { result ≡ answer (before_columns_no (⟦<Kinds<R, M, B> as Meant>⟧.meaning kinds.now) stiffness readings.now denominator multipliers.now room) tt }
 {
     check_stiffness(stiffness)?;
     check_readings(readings)?;
@@ -144,7 +144,7 @@ pub fn weigh_multipliers<R: Roughness, M: Penalty, B: Penalty>(
     multipliers: &[i64],
     columns: &mut [i64],
 ) -> Result<i64, Refusal>
-    ensures { WeighsMultipliers (three (R.Roughness.meaning kinds.now.roughness) (M.Penalty.meaning kinds.now.misfit) (B.Penalty.meaning kinds.now.bend)) stiffness readings.now denominator multipliers.now columns.old columns.new result }
+    ensures { WeighsMultipliers (⟦<Kinds<R, M, B> as Meant>⟧.meaning kinds.now) stiffness readings.now denominator multipliers.now columns.old columns.new result }
 {
     check_before_columns(
         kinds,
