@@ -104,3 +104,9 @@ module _ {X : Type 0} (text : ℕ → X → List ℕ) where
             puts = subst (λ j. Puts a b p.at j (flat_map line (texts_from text 0 xs))) (sym (ap (λ (q : Progress). q.at) e)) bytes;
             becomes = e ∙ ap past_list l.becomes ∙ ap (λ (ys : List X). moved_on p (p.at + width * length ys) 0) (take_all i xs h);
           }
+
+-- a call that leads on to the next list writes nothing
+pub led_puts : {S T : Type 0} {a b : List ℕ} {i : ℕ} {l : List ℕ} (s : Unfinished S) (r : Result (Unfinished T) (Refused (Unfinished S))) → ListStep s r → (t : Unfinished T) → r ≡ Ok t → Puts a b i s.progress.at l → Puts a b i t.progress.at l
+led_puts {a = a} {b = b} {i = i} {l = l} s r step t is p =
+    let e = (MatchResult-at_ok _ (Returned (readings_no s.progress) s [] []) t is step).1 in
+    subst (λ j. Puts a b i j l) (sym (ap (λ (q : Progress). q.at) e)) p

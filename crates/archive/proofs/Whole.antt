@@ -103,24 +103,23 @@ pub file_joined : (g : Figures) {a₀ a₁ a₂ a₃ a₄ a₅ : List ℕ} {j₁
     → Puts a₀ a₅ 0 j₅ (file g)
 file_joined g h xs vs ms e = puts_same (file_pieces g) (puts_more h (puts_more xs (puts_more vs (puts_more ms e))))
 
-module _ (g : Figures) (cost : g.cost < 2 ^ 64) (floor : SFits w64 g.floor) (a : List ℕ) where
-  pub writes_refused : (e : Cause) → writing_no g (length a) ≡ Some e → Writes g a a (Err e)
-  writes_refused e stopped = record {
-    answer = sym (ap (λ (o : Option Cause). answered o (file_length (length g.readings) (length g.multipliers))) stopped);
-    content = sym (ap (λ (o : Option Cause). filled o (file g) a) stopped);
-    fitting = fitting_from g (length a) cost floor;
-    accepted = accepted_from g (length a);
-    long = fitting_long g;
-  }
+pub writes_refused : (g : Figures) (a : List ℕ) (e : Cause) → writing_no g (length a) ≡ Some e → Writes g a a (Err e)
+writes_refused g a e stopped = record {
+  answer = sym (ap (λ (o : Option Cause). answered o (file_length (length g.readings) (length g.multipliers))) stopped);
+  content = sym (ap (λ (o : Option Cause). filled o (file g) a) stopped);
+  fitting = λ passes. let no : Some e ≡ None = sym stopped ∙ passes in cc;
+  accepted = accepted_from g (length a);
+  long = fitting_long g;
+}
 
-  pub writes_whole : (b : List ℕ) (n : ℕ) → writing_no g (length a) ≡ None → Puts a b 0 n (file g) → Writes g a b (Ok n)
-  writes_whole b n passes p =
-      let stops : n ≡ length (file g) = p.stops ∙ zero-add (length (file g)) in
-      let long = fitting_long g (fitting_from g (length a) cost floor passes) in
-      record {
-        answer = ap Ok (stops ∙ long) ∙ sym (ap (λ (o : Option Cause). answered o (file_length (length g.readings) (length g.multipliers))) passes);
-        content = p.is ∙ ap (λ k. file g ++ drop k a) stops ∙ sym (ap (λ (o : Option Cause). filled o (file g) a) passes);
-        fitting = fitting_from g (length a) cost floor;
-        accepted = accepted_from g (length a);
-        long = fitting_long g;
-      }
+pub writes_whole : (g : Figures) → g.cost < 2 ^ 64 → SFits w64 g.floor → (a b : List ℕ) (n : ℕ) → writing_no g (length a) ≡ None → Puts a b 0 n (file g) → Writes g a b (Ok n)
+writes_whole g cost floor a b n passes p =
+    let stops : n ≡ length (file g) = p.stops ∙ zero-add (length (file g)) in
+    let long = fitting_long g (fitting_from g (length a) cost floor passes) in
+    record {
+      answer = ap Ok (stops ∙ long) ∙ sym (ap (λ (o : Option Cause). answered o (file_length (length g.readings) (length g.multipliers))) passes);
+      content = p.is ∙ ap (λ k. file g ++ drop k a) stops ∙ sym (ap (λ (o : Option Cause). filled o (file g) a) passes);
+      fitting = fitting_from g (length a) cost floor;
+      accepted = accepted_from g (length a);
+      long = fitting_long g;
+    }

@@ -1,13 +1,13 @@
-use Rattle.std.proofs.Common.{arith}
-use Rattle.digits.specs.Fields.{field}
-use Rattle.archive.specs.File.{head_text}
-use Rattle.archive.proofs.Pasting.{puts_more}
+use Rattle.std.proofs.Common.{arith, length-append}
+use Rattle.digits.proofs.Fields.{field_length}
+use Rattle.archive.proofs.Fields.{head_fields, line_puts}
+use Rattle.archive.proofs.Lengths.{head_long}
 use Rattle.archive.proofs.put.put_head.Goals as goal
 
+pub put_line-requires : goal.put_line-requires
+put_line-requires c = simp (length-append, field_length) (omega arith)
+
 pub returns : goal.returns
-unfolding head_text field
 returns c =
-    let settings = puts_more c.put_field-at-7.ensures.puts (puts_more c.put_field-at-8.ensures.puts c.put_field-at-9.ensures.puts) in
-    let marks = puts_more c.put_field-at-4.ensures.puts (puts_more c.put_field-at-5.ensures.puts (puts_more c.put_field-at-6.ensures.puts settings)) in
-    let start = puts_more c.put_field-at.ensures.puts (puts_more c.put_field-at-2.ensures.puts (puts_more c.put_field-at-3.ensures.puts marks)) in
-    record { puts = puts_more start c.put_end_byte.ensures.puts; stops = omega arith }
+    let puts = line_puts 49 (head_fields c.args.head) (head_long 1 c.args.head) c.put_line.ensures in
+    record { puts = puts.0; stops = puts.1 }

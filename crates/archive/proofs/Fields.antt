@@ -1,0 +1,60 @@
+-- Fields that are put one behind the other, and an end byte behind them.
+--     fields_next, fields_reach     one field more, and how far it reaches
+--     field_put       a field that is written anew
+--     head_fields, reading_fields, entry_fields, multiplier_fields, end_fields     the fields of each frame are its digits
+--     line_puts       a line under the name of its frame
+use Rattle.std.proofs.Common.{◌≡◌, ℕ, ◌+◌, ◌-◌, ◌<◌, ◌≤◌, List, [], ◌∷◌, ◌++◌, length, get_or, take, drop, ℤ, unsigned_abs, sym, refl, ap, ◌∙◌, arith, w32, w64, of_z, length-append, length-drop, length-take}
+use borrow.Rule.Slice.PartMut.{put_mid}
+use Rattle.std.proofs.lemmas.List.{flat_map_more, take_more, take-append-drop}
+use Rattle.std.proofs.lemmas.List.Concat.{flat_map-append}
+use Rattle.kinds.specs.declared.reading.Reading.{Reading}
+use Rattle.digits.specs.Fields.{field}
+use Rattle.digits.proofs.Fields.{field_length}
+use Rattle.archive.specs.declared.figures.Head.{Head}
+use Rattle.archive.specs.File.{edition, head_text, reading_text, entry_text, multiplier_text, end_text, line}
+use Rattle.archive.specs.Writing.{Puts, fields_text}
+use Rattle.archive.proofs.Pasting.{puts_part, puts_same}
+
+abbrev digits : ℕ × ℕ → List ℕ
+digits f = field f.0 f.1
+
+module _ (fs : List (ℕ × ℕ)) (k : ℕ) (d : ℕ × ℕ) (h : k < length fs) where
+  pub fields_next : fields_text (take (k + 1) fs) ≡ fields_text (take k fs) ++ field (get_or fs k d).0 (get_or fs k d).1
+  fields_next = ap fields_text (take_more fs k d h) ∙ sym (flat_map_more digits [] (take k fs) (get_or fs k d))
+
+  pub fields_reach : (a b : List ℕ) (i j : ℕ) → Puts a b i j (fields_text (take k fs)) → i + length (line (fields_text fs)) ≤ length a → j + (get_or fs k d).0 + 1 ≤ length a
+  fields_reach a b i j p room =
+      let whole : fields_text fs ≡ fields_text (take (k + 1) fs) ++ fields_text (drop (k + 1) fs) = ap fields_text (sym (take-append-drop (k + 1) fs)) ∙ flat_map-append digits (take (k + 1) fs) (drop (k + 1) fs) in
+      let long = ap length whole ∙ length-append (fields_text (take (k + 1) fs)) (fields_text (drop (k + 1) fs)) in
+      let next = ap length fields_next ∙ length-append (fields_text (take k fs)) (field (get_or fs k d).0 (get_or fs k d).1) in
+      omega (arith, p.stops, room, long, next, field_length (get_or fs k d).0 (get_or fs k d).1, length-append (fields_text fs) (10 ∷ []))
+
+pub field_put : (b t : List ℕ) (j w x : ℕ) → t ≡ field (length (take (j + w - j) (drop j b))) x → j + w ≤ length b → Puts b (put_mid j (j + w - j) b t) j (j + w) (field w x)
+field_put b t j w x e h =
+    let part : length (take (j + w - j) (drop j b)) ≡ w = simp (length-take, length-drop) (omega arith) in
+    let text : t ≡ field w x = e ∙ ap (λ n. field n x) part in
+    let long : length t ≡ w = ap length text ∙ field_length w x in
+    puts_same text (puts_part b t j (j + w) (j + w - j) (omega arith) (omega arith) h)
+
+pub head_fields : (h : Head) → fields_text ((2, 1) ∷ (2, 1) ∷ (4, h.roughness) ∷ (6, h.misfit) ∷ (6, h.bend) ∷ (4, h.readings) ∷ (4, h.stiffness) ∷ (4, h.denominator) ∷ (16, h.allowance) ∷ []) ≡ head_text edition h
+unfolding head_text field
+head_fields h = refl
+
+pub reading_fields : (k m x w : ℕ) (r : Reading) → m ≡ unsigned_abs r.minute → x ≡ unsigned_abs r.crude → w ≡ unsigned_abs r.weight → fields_text ((2, 2) ∷ (4, k) ∷ (8, m) ∷ (4, x) ∷ (4, w) ∷ []) ≡ reading_text k r
+unfolding reading_text field
+reading_fields k m x w r e f g = rw (e, f, g)
+
+pub entry_fields : (k x : ℕ) (v : ℤ) → x ≡ unsigned_abs v → fields_text ((2, 3) ∷ (4, k) ∷ (4, x) ∷ []) ≡ entry_text k v
+unfolding entry_text field
+entry_fields k x v e = rw e
+
+pub multiplier_fields : (k x : ℕ) (m : ℤ) → x ≡ of_z w32 m → fields_text ((2, 4) ∷ (4, k) ∷ (8, x) ∷ []) ≡ multiplier_text k m
+unfolding multiplier_text field
+multiplier_fields k x m e = rw e
+
+pub end_fields : (c x : ℕ) (b : ℤ) → x ≡ of_z w64 b → fields_text ((2, 255) ∷ (16, c) ∷ (16, x) ∷ []) ≡ end_text c b
+unfolding end_text field
+end_fields c x b e = rw e
+
+pub line_puts : {a b : List ℕ} {i j : ℕ} {t u : List ℕ} (width : ℕ) → t ≡ u → length (line u) ≡ width → Puts a b i j (line t) → Puts a b i j (line u) × (j ≡ i + width)
+line_puts {i = i} width e long p = let q = puts_same (ap line e) p in (q, q.stops ∙ ap (λ n. i + n) long)
