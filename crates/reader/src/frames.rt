@@ -1,11 +1,10 @@
 // The second layer: the frames, with their fields as parts of the file.
 ghost use Rattle.std.specs.Prelude.{◌≡◌, ◌≤◌, ◌∷◌, length, MatchResult};
-ghost use Rattle.kinds.specs.declared.refusal.Cause.TheVariants.{Frame as NotInOrder};
 ghost use Rattle.reader.specs.Faults.{fault};
 ghost use Rattle.reader.specs.Lines.{Good};
 ghost use Rattle.reader.specs.Shapes.{Field, form, Cut, frame_text, Shaped, NoFrame};
 
-use crate::fault::Fault;
+use crate::fault::{Fault, Layer};
 use kinds::refusal::Cause;
 
 // The fields of a head, each a part of its line.
@@ -123,10 +122,10 @@ fn reading_frame<'a>(digits: &'a [u8]) -> Frame<'a>
 // The frame that a line is.
 pub(crate) fn read_frame<'a>(line: &'a [u8], at: usize) -> Result<Frame<'a>, Fault>
     requires { Good line.now }
-    ensures { MatchResult result (λ f. (line.now ≡ frame_text f) × Shaped f) (λ e. (e ≡ fault 2 NotInOrder at) × NoFrame line.now) }
+    ensures { MatchResult result (λ f. (line.now ≡ frame_text f) × Shaped f) (λ e. (e ≡ fault Layer.Frames Cause.Frame at) × NoFrame line.now) }
 {
     let [a, b, digits @ ..] = line else {
-        return Err(Fault::new(2, Cause::Frame, at));
+        return Err(Fault::new(Layer::Frames, Cause::Frame, at));
     };
     match form_of(*a, *b, digits.len()) {
         Form::Head => Ok(head_frame(digits)),
@@ -143,6 +142,6 @@ pub(crate) fn read_frame<'a>(line: &'a [u8], at: usize) -> Result<Frame<'a>, Fau
             let (cost, floor) = cut(digits, 16);
             Ok(Frame::End { cost, floor })
         }
-        Form::Other => Err(Fault::new(2, Cause::Frame, at)),
+        Form::Other => Err(Fault::new(Layer::Frames, Cause::Frame, at)),
     }
 }

@@ -8,7 +8,7 @@ ghost use Rattle.reader.specs.declared.frames.Frame.TheVariants.{Head as HeadFra
 ghost use Rattle.reader.specs.declared.stage.Stage.TheVariants.{Head as AtHead, Reading as AtReading, Entry as AtEntry, Multiplier as AtMultiplier, End as AtEnd};
 
 use crate::contents::{Contents, Wanted};
-use crate::fault::Fault;
+use crate::fault::{Fault, Layer};
 use crate::frames::{Frame, HeadFields};
 use crate::stage::{Stage, awaited};
 use crate::values::{figure, long_signed, short_signed, unsigned};
@@ -38,21 +38,21 @@ fn check_head(wanted: Option<Wanted>, edition: u64, head: Head, at: usize) -> Re
     ensures { HeadChecked wanted edition head at result }
 {
     let Some(wanted) = wanted else {
-        return Err(Fault::new(2, Cause::Mark, at));
+        return Err(Fault::new(Layer::Frames, Cause::Mark, at));
     };
     if edition != 1
         || head.roughness != wanted.roughness as u64
         || head.misfit != wanted.misfit as u64
         || head.bend != wanted.bend as u64
     {
-        return Err(Fault::new(2, Cause::Mark, at));
+        return Err(Fault::new(Layer::Frames, Cause::Mark, at));
     }
     if head.readings > 240 {
-        return Err(Fault::new(2, Cause::Full, at));
+        return Err(Fault::new(Layer::Frames, Cause::Full, at));
     }
     let readings = head.readings as usize;
     if readings <= wanted.reach {
-        return Err(Fault::new(2, Cause::Short, at));
+        return Err(Fault::new(Layer::Frames, Cause::Short, at));
     }
     Ok(readings - wanted.reach)
 }
@@ -104,7 +104,7 @@ impl Machine {
         ensures { LineStepped (48 ∷ 50 ∷ (place.now ++ (minute.now ++ (crude.now ++ weight.now)))) at self.old self.new result }
     {
         if figure(place) != k as u64 {
-            return Err(Fault::new(2, Cause::Frame, at));
+            return Err(Fault::new(Layer::Frames, Cause::Frame, at));
         }
         self.contents.readings[k] = Reading {
             minute: unsigned(minute),
@@ -122,7 +122,7 @@ impl Machine {
         ensures { LineStepped (48 ∷ 51 ∷ (place.now ++ value.now)) at self.old self.new result }
     {
         if figure(place) != k as u64 {
-            return Err(Fault::new(2, Cause::Frame, at));
+            return Err(Fault::new(Layer::Frames, Cause::Frame, at));
         }
         self.contents.entries[k] = unsigned(value);
         self.advance();
@@ -142,7 +142,7 @@ impl Machine {
         ensures { LineStepped (48 ∷ 52 ∷ (place.now ++ value.now)) at self.old self.new result }
     {
         if figure(place) != k as u64 {
-            return Err(Fault::new(2, Cause::Frame, at));
+            return Err(Fault::new(Layer::Frames, Cause::Frame, at));
         }
         self.contents.multipliers[k] = short_signed(value);
         self.advance();
@@ -215,29 +215,29 @@ impl Machine {
                 | Frame::Entry { .. }
                 | Frame::Multiplier { .. }
                 | Frame::End { .. },
-            ) => Err(Fault::new(2, Cause::Frame, at)),
+            ) => Err(Fault::new(Layer::Frames, Cause::Frame, at)),
             (
                 Stage::Reading(_),
                 Frame::Head(_) | Frame::Entry { .. } | Frame::Multiplier { .. } | Frame::End { .. },
-            ) => Err(Fault::new(2, Cause::Frame, at)),
+            ) => Err(Fault::new(Layer::Frames, Cause::Frame, at)),
             (
                 Stage::Entry(_),
                 Frame::Head(_)
                 | Frame::Reading { .. }
                 | Frame::Multiplier { .. }
                 | Frame::End { .. },
-            ) => Err(Fault::new(2, Cause::Frame, at)),
+            ) => Err(Fault::new(Layer::Frames, Cause::Frame, at)),
             (
                 Stage::Multiplier(_),
                 Frame::Head(_) | Frame::Reading { .. } | Frame::Entry { .. } | Frame::End { .. },
-            ) => Err(Fault::new(2, Cause::Frame, at)),
+            ) => Err(Fault::new(Layer::Frames, Cause::Frame, at)),
             (
                 Stage::End,
                 Frame::Head(_)
                 | Frame::Reading { .. }
                 | Frame::Entry { .. }
                 | Frame::Multiplier { .. },
-            ) => Err(Fault::new(2, Cause::Frame, at)),
+            ) => Err(Fault::new(Layer::Frames, Cause::Frame, at)),
             (
                 Stage::Nothing,
                 Frame::Head(_)
@@ -245,7 +245,7 @@ impl Machine {
                 | Frame::Entry { .. }
                 | Frame::Multiplier { .. }
                 | Frame::End { .. },
-            ) => Err(Fault::new(2, Cause::Frame, at)),
+            ) => Err(Fault::new(Layer::Frames, Cause::Frame, at)),
         }
     }
 }

@@ -1,6 +1,7 @@
 use Rattle.std.proofs.Common.{Ok, Err, sym, ap, ◌∙◌, subst, arith, rules}
 use Rattle.std.proofs.lemmas.Result.{err_from_is_err_and}
 use Rattle.kinds.specs.declared.refusal.Cause.TheVariants.{Frame}
+use Rattle.reader.specs.declared.fault.Layer.TheVariants as layer
 use Rattle.reader.specs.Faults.{fault}
 use Rattle.reader.specs.Frames.{InTurn, size}
 use Rattle.reader.specs.Lines.{pieces}
@@ -26,7 +27,7 @@ returns-in_err-frame c =
     let t = turned c.args.file.now c.loop-line.lines c.next_line.new.self c.in_ok-line.field-0 c.in-Some.line c.loop-line.invariant.0 c.in_ok-line.ensures c.in-Some.is in
     let p = err_from_is_err_and c.from_residual-in_err-frame.result c.from_residual-in_err-frame.ensures.1 in
     rw (p.1, p.2)
-    (odd c.args.wanted ls c.loop-line.lines.taken c.loop-line.machine c.loop-line.invariant.1 _ (h.0 ∙ ap (fault 2 Frame) t.counts) (λ o. h.1 _ (subst (InTurn c.loop-line.machine.stage) t.here o)))
+    (odd c.args.wanted ls c.loop-line.lines.taken c.loop-line.machine c.loop-line.invariant.1 _ (h.0 ∙ ap (fault layer.Frames Frame) t.counts) (λ o. h.1 _ (subst (InTurn c.loop-line.machine.stage) t.here o)))
 
 pub loop-line-smaller : goal.loop-line-smaller
 loop-line-smaller c =
