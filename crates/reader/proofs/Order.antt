@@ -26,7 +26,7 @@ use Rattle.reader.specs.declared.fault.Layer.TheVariants as layer
 use Rattle.reader.specs.Faults.{fault}
 use Rattle.reader.specs.Lines.{Good, pieces}
 use Rattle.reader.specs.Turns.{Known, Next}
-use Rattle.reader.specs.Frames.{stage_at, InTurn, HeadIs, Agrees, reach_of, Disorder, headless, unlike, many, short, misplaced}
+use Rattle.reader.specs.Frames.{stage_at, size, InTurn, HeadIs, Agrees, reach_of, Disorder, headless, unlike, many, short, misplaced}
 use Rattle.reader.specs.Order.{FirstDisorder}
 use Rattle.reader.specs.Readable.{figures_of, InForm}
 use Rattle.reader.specs.Steps.{no_reading, text_of, fits_of, Running, Steady, SteadyAt, HeadTaken, HeadOff, HeadRefused, LineTaken, Stepped, SteppedAt}
@@ -353,12 +353,21 @@ turned bs a b o l u n e =
       known = known_rest a.rest.now l.now b.rest.now m.0;
     }
 
+-- of all stages, only the last waits for no digits
+no_digits : (s : Stage) → 0 ≡ size s → s ≡ Nothing
+no_digits Head e = absurd (omega arith)
+no_digits (Reading k) e = absurd (omega arith)
+no_digits (Entry k) e = absurd (omega arith)
+no_digits (Multiplier k) e = absurd (omega arith)
+no_digits End e = absurd (omega arith)
+no_digits Nothing e = refl
+
 -- nothing is left: no line stands where the machine waits for one
 pub missing : (w : Option Wanted) (bs : List ℕ) (a b : Lines) (o : Option (Bor (List ℕ))) (m : Machine) (f : Fault) → Upto bs a.rest.now a.taken → Next a b (Ok o) → o ≡ None
-    → Reached w (pieces bs) a.taken m → (InTurn m.stage [] → ⊥) → f ≡ fault layer.Frames Frame (b.taken + 1) → FirstDisorder w (pieces bs) f
-missing w bs a b o m f u n e r bad is =
+    → Reached w (pieces bs) a.taken m → (m.stage ≡ Nothing → ⊥) → f ≡ fault layer.Frames Frame (b.taken + 1) → FirstDisorder w (pieces bs) f
+missing w bs a b o m f u n e r waits is =
     let x : Next a b (Ok None) = subst (λ y. Next a b (Ok y)) e n in
-    odd w (pieces bs) a.taken m r f (is ∙ ap (λ y. fault layer.Frames Frame (y.taken + 1)) x.1) (λ t. bad (subst (InTurn m.stage) (upto_past bs a.rest.now a.taken u x.0 a.taken (omega arith)) t))
+    odd w (pieces bs) a.taken m r f (is ∙ ap (λ y. fault layer.Frames Frame (y.taken + 1)) x.1) (λ t. waits (no_digits m.stage (subst (InTurn m.stage) (upto_past bs a.rest.now a.taken u x.0 a.taken (omega arith)) t).sized))
 
 pub finished : (w : Option Wanted) (bs : List ℕ) (a b : Lines) (o : Option (Bor (List ℕ))) (m : Machine) → Upto bs a.rest.now a.taken → Next a b (Ok o) → o ≡ None
     → Reached w (pieces bs) a.taken m → m.stage ≡ Nothing → Fits 16 m.contents.cost → SFits w64 m.contents.floor → InForm w (figures_of m.contents) × (bs ≡ file (figures_of m.contents))

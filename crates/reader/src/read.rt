@@ -28,11 +28,7 @@ fn read_frames(file: &[u8], wanted: Option<Wanted>) -> Result<Contents, Fault>
     }
     match machine.stage {
         Stage::Nothing => Ok(machine.contents),
-        Stage::Head => Err(Fault::new(Layer::Frames, Cause::Frame, lines.taken + 1)),
-        Stage::Reading(_) => Err(Fault::new(Layer::Frames, Cause::Frame, lines.taken + 1)),
-        Stage::Entry(_) => Err(Fault::new(Layer::Frames, Cause::Frame, lines.taken + 1)),
-        Stage::Multiplier(_) => Err(Fault::new(Layer::Frames, Cause::Frame, lines.taken + 1)),
-        Stage::End => Err(Fault::new(Layer::Frames, Cause::Frame, lines.taken + 1)),
+        _ => Err(Fault::new(Layer::Frames, Cause::Frame, lines.taken + 1)),
     }
 }
 
