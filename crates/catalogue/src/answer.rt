@@ -84,8 +84,8 @@ fn refused_line(fault: &Fault) -> AnswerLine
     AnswerLine::new()
         .with_byte(69)
         .with_byte(69)
-        .with_field(2, fault.layer as u64)
-        .with_field(2, fault.number as u64)
+        .with_field(2, u8::from(fault.layer) as u64)
+        .with_field(2, u8::from(fault.cause) as u64)
         .with_field(4, fault.line as u64)
         .with_byte(10)
 }

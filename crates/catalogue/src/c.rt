@@ -13,8 +13,8 @@ fn pack(answer: &Result<Contents, Fault>) -> u32
     match answer {
         Ok(_) => 0,
         Err(fault) => {
-            let layer = fault.layer as u32;
-            let number = fault.number as u32;
+            let layer = u8::from(fault.layer) as u32;
+            let number = u8::from(fault.cause) as u32;
             layer * 0x100_0000 + number * 0x1_0000 + fault.line as u32
         }
     }

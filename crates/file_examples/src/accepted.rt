@@ -5,7 +5,7 @@ use kinds::reading::Reading;
 use kinds::refusal::{Cause, Refusal};
 use objective::trio::Kinds;
 use penalties::absolute::Absolute;
-use reader::fault::Fault;
+use reader::fault::{Fault, Layer};
 use roughness::first::First;
 use roughness::raise::Raise;
 use std::test::Fail;
@@ -128,15 +128,15 @@ fn too_steep_comes_first(rt: HostRuntime) {
         },
     };
     let steep = Fault {
-        layer: 3,
-        number: 12,
+        layer: Layer::Figures,
+        cause: Cause::Steep,
         line: 0,
     };
     assert_eq!(rt; judge(&over(ten), b"").err(), Some(steep));
     assert_eq!(rt; judge(&over(ten), b"no file").err(), Some(steep));
     let empty = Fault {
-        layer: 1,
-        number: 17,
+        layer: Layer::Lines,
+        cause: Cause::Line,
         line: 1,
     };
     assert_eq!(rt; second_order(b""), Some(empty));

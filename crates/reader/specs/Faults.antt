@@ -1,5 +1,6 @@
 -- Faults, and which of several comes first.
 --     told_line       a line as it is told: 65,535 if larger
+--     layer_number    a layer's number
 --     fault           a fault, of its layer, cause and line
 --     Rank            where a fault stands in the order of checking: phase, then line, then turn at that line
 --     rank            a rank of its three numbers
@@ -10,14 +11,20 @@
 -- 5 the entries, 6 the multipliers, 7 the columns, 8 the end. Lines count from 1; the kinds stand in line 0.
 use Rattle.std.specs.Prelude.{◌≡◌, ℕ, zero, suc, ◌<◌, min, ◌⊎◌}
 use Rattle.kinds.specs.declared.refusal.Cause.{Cause}
-use Rattle.kinds.specs.Refusals.{number_of}
 use Rattle.reader.specs.declared.fault.Fault.{Fault}
+use Rattle.reader.specs.declared.fault.Layer.{Layer}
+use Rattle.reader.specs.declared.fault.Layer.TheVariants.{Lines, Frames, Figures}
 
 abbrev pub told_line : ℕ → ℕ
 told_line l = min l 65535
 
-abbrev pub fault : ℕ → Cause → ℕ → Fault
-fault layer cause line = record { layer = layer; number = number_of cause; line = told_line line }
+abbrev pub layer_number : Layer → ℕ
+layer_number Lines = 1
+layer_number Frames = 2
+layer_number Figures = 3
+
+abbrev pub fault : Layer → Cause → ℕ → Fault
+fault layer cause line = record { layer = layer; cause = cause; line = told_line line }
 
 pub record Rank : Type 0 where
   pub phase : ℕ
@@ -33,11 +40,11 @@ Before a b =
     ⊎ ((a.phase ≡ b.phase) × ((a.line < b.line) ⊎ ((a.line ≡ b.line) × (a.turn < b.turn))))
 
 -- the kinds and the figures are the third layer
-abbrev pub layer_of : ℕ → ℕ
-layer_of zero = 3
-layer_of (suc zero) = 1
-layer_of (suc (suc zero)) = 2
-layer_of (suc (suc (suc group))) = 3
+abbrev pub layer_of : ℕ → Layer
+layer_of zero = Figures
+layer_of (suc zero) = Lines
+layer_of (suc (suc zero)) = Frames
+layer_of (suc (suc (suc group))) = Figures
 
 -- `Has q c` says that there is a fault of cause c at rank q
 pub record Least (Has : Rank → Cause → Type 0) (f : Fault) : Type 0 where

@@ -22,6 +22,7 @@ use Rattle.reader.specs.declared.fault.Fault.{Fault}
 use Rattle.reader.specs.declared.machine.Machine.{Machine}
 use Rattle.reader.specs.declared.stage.Stage.{Stage}
 use Rattle.reader.specs.declared.stage.Stage.TheVariants.{Head, Reading, Entry, Multiplier, End, Nothing}
+use Rattle.reader.specs.declared.fault.Layer.TheVariants as layer
 use Rattle.reader.specs.Faults.{fault}
 use Rattle.reader.specs.Frames.{stage_at, InTurn, HeadIs, Agrees, Like, reach_of}
 use Rattle.reader.specs.Readable.{figures_of}
@@ -76,9 +77,9 @@ pub record HeadTaken (w : Option Wanted) (l : List ℕ) (m : Machine) : Type 0 w
 
 abbrev pub HeadOff : Option Wanted → ℕ → StatedHead → ℕ → Fault → Type 0
 HeadOff w e h at f =
-    ((f ≡ fault 2 Mark at) × (Like w e h → ⊥))
-    ⊎ (((f ≡ fault 2 Full at) × Like w e h × (240 < h.readings))
-    ⊎ ((f ≡ fault 2 Short at) × Like w e h × (h.readings ≤ 240) × (h.readings ≤ reach_of w)))
+    ((f ≡ fault layer.Frames Mark at) × (Like w e h → ⊥))
+    ⊎ (((f ≡ fault layer.Frames Full at) × Like w e h × (240 < h.readings))
+    ⊎ ((f ≡ fault layer.Frames Short at) × Like w e h × (h.readings ≤ 240) × (h.readings ≤ reach_of w)))
 
 abbrev pub HeadChecked : Option Wanted → ℕ → StatedHead → ℕ → Result ℕ Fault → Type 0
 HeadChecked w e h at (Ok m) = Like w e h × (h.readings ≤ 240) × (reach_of w < h.readings) × (m ≡ h.readings - reach_of w)
@@ -86,7 +87,7 @@ HeadChecked w e h at (Err f) = HeadOff w e h at f
 
 abbrev pub HeadRefused : Option Wanted → List ℕ → ℕ → Fault → Type 0
 HeadRefused w l at f =
-    ((f ≡ fault 2 Frame at) × (InTurn Head l → ⊥))
+    ((f ≡ fault layer.Frames Frame at) × (InTurn Head l → ⊥))
     ⊎ ((e : ℕ) × (h : StatedHead) × HeadIs l e h × HeadOff w e h at f)
 
 pub record LineTaken (l : List ℕ) (m m' : Machine) : Type 0 where
@@ -99,7 +100,7 @@ pub record LineTaken (l : List ℕ) (m m' : Machine) : Type 0 where
 
 abbrev pub LineStepped : List ℕ → ℕ → Machine → Machine → Result (Unit {0}) Fault → Type 0
 LineStepped l at m m' (Ok _) = LineTaken l m m'
-LineStepped l at m m' (Err f) = (f ≡ fault 2 Frame at) × (InTurn m.stage l → ⊥)
+LineStepped l at m m' (Err f) = (f ≡ fault layer.Frames Frame at) × (InTurn m.stage l → ⊥)
 
 abbrev pub HeadStepped : Option Wanted → List ℕ → ℕ → Machine → Result (Unit {0}) Fault → Type 0
 HeadStepped w l at m' (Ok _) = HeadTaken w l m'

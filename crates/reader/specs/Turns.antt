@@ -11,6 +11,7 @@ use Rattle.digits.specs.Fields.{is_digit}
 use Rattle.kinds.specs.declared.refusal.Cause.TheVariants.{Line}
 use Rattle.reader.specs.declared.fault.Fault.{Fault}
 use Rattle.reader.specs.declared.lines.Lines.{Lines}
+use Rattle.reader.specs.declared.fault.Layer.TheVariants as layer
 use Rattle.reader.specs.Faults.{fault}
 use Rattle.reader.specs.Lines.{Good, pieces, Broken}
 
@@ -28,10 +29,10 @@ BadStart s =
 abbrev pub Next : Lines → Lines → Result (Option (Bor (List ℕ))) Fault → Type 0
 Next a b (Ok None) = (a.rest.now ≡ []) × (b ≡ a)
 Next a b (Ok (Some l)) = (a.rest.now ≡ l.now ++ (10 ∷ b.rest.now)) × (b.taken ≡ a.taken + 1) × Good l.now
-Next a b (Err f) = (f ≡ fault 1 Line (a.taken + 1)) × BadStart a.rest.now
+Next a b (Err f) = (f ≡ fault layer.Lines Line (a.taken + 1)) × BadStart a.rest.now
 
 pub record FirstBroken (bs : List ℕ) (f : Fault) : Type 0 where
   pub at : ℕ
-  pub is : f ≡ fault 1 Line (suc at)
+  pub is : f ≡ fault layer.Lines Line (suc at)
   pub broken : Broken bs at
   pub before : (j : ℕ) → j < at → Broken bs j → ⊥

@@ -4,25 +4,43 @@ ghost use Rattle.reader.specs.Faults.{fault};
 
 use kinds::refusal::Cause;
 
+// The layer that finds a fault. Text and C say it by the number that `u8::from` gives.
+#[derive(Clone, Copy, PartialEq, Eq, Debug)]
+pub enum Layer {
+    Lines,
+    Frames,
+    // also the kinds, which are checked before the file
+    Figures,
+}
+
+impl From<Layer> for u8 {
+    ghost use Rattle.std.specs.Prelude.{◌≡◌};
+    ghost use Rattle.reader.specs.Faults.{layer_number};
+
+    ghost from_gives = { λ layer number. number ≡ layer_number layer };
+
+    fn from(layer: Layer) -> u8 {
+        match layer {
+            Layer::Lines => 1,
+            Layer::Frames => 2,
+            Layer::Figures => 3,
+        }
+    }
+}
+
 #[derive(Clone, Copy, PartialEq, Eq, Debug)]
 pub struct Fault {
-    // 1 the lines, 2 the frames, 3 the figures
-    pub layer: u8,
-    // the number of the cause
-    pub number: u8,
+    pub layer: Layer,
+    pub cause: Cause,
     // counted from 1, 65,535 if larger; 0 where the fault is in no line
     pub line: u16,
 }
 
 impl Fault {
-    pub fn new(layer: u8, cause: Cause, line: usize) -> Fault
+    pub fn new(layer: Layer, cause: Cause, line: usize) -> Fault
         ensures { result ≡ fault layer cause line }
     {
         let line = if line < 65_535 { line as u16 } else { 65_535 };
-        Fault {
-            layer,
-            number: u8::from(cause),
-            line,
-        }
+        Fault { layer, cause, line }
     }
 }

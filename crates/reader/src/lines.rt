@@ -4,7 +4,7 @@ ghost use Rattle.digits.specs.Fields.{is_digit, Digits};
 ghost use Rattle.reader.specs.Lines.{Whole};
 ghost use Rattle.reader.specs.Turns.{is_known, Known, Next, FirstBroken};
 
-use crate::fault::Fault;
+use crate::fault::{Fault, Layer};
 use digits::is_digit;
 use kinds::refusal::Cause;
 
@@ -78,7 +78,7 @@ impl<'a> Lines<'a> {
         }
         let end = leading_digits(self.rest, known);
         if end == self.rest.len() || self.rest[end] != 10 || end < 2 || end > 60 {
-            return Err(Fault::new(1, Cause::Line, self.taken + 1));
+            return Err(Fault::new(Layer::Lines, Cause::Line, self.taken + 1));
         }
         let (line, more) = self.rest.split_at(end);
         self.rest = &more[1..];
@@ -98,7 +98,7 @@ pub(crate) fn check_lines(file: &[u8]) -> Result<(), Fault>
     let known = all_known(file);
     while let Some(_line) = lines.next_line(known)? {}
     if lines.taken == 0 {
-        return Err(Fault::new(1, Cause::Line, 1));
+        return Err(Fault::new(Layer::Lines, Cause::Line, 1));
     }
     Ok(())
 }

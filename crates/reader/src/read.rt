@@ -4,7 +4,7 @@ ghost use Rattle.reader.specs.Order.{FramesRead};
 ghost use Rattle.reader.specs.Readable.{ReadAs, ComesBack};
 
 use crate::contents::{Contents, Wanted};
-use crate::fault::Fault;
+use crate::fault::{Fault, Layer};
 use crate::frames::read_frame;
 use crate::lines::{Lines, check_lines};
 use crate::machine::Machine;
@@ -28,11 +28,7 @@ fn read_frames(file: &[u8], wanted: Option<Wanted>) -> Result<Contents, Fault>
     }
     match machine.stage {
         Stage::Nothing => Ok(machine.contents),
-        Stage::Head => Err(Fault::new(2, Cause::Frame, lines.taken + 1)),
-        Stage::Reading(_) => Err(Fault::new(2, Cause::Frame, lines.taken + 1)),
-        Stage::Entry(_) => Err(Fault::new(2, Cause::Frame, lines.taken + 1)),
-        Stage::Multiplier(_) => Err(Fault::new(2, Cause::Frame, lines.taken + 1)),
-        Stage::End => Err(Fault::new(2, Cause::Frame, lines.taken + 1)),
+        _ => Err(Fault::new(Layer::Frames, Cause::Frame, lines.taken + 1)),
     }
 }
 

@@ -10,6 +10,7 @@ use Rattle.archive.specs.File.{Figures, file}
 use Rattle.reader.specs.declared.contents.Contents.{Contents}
 use Rattle.reader.specs.declared.contents.Wanted.{Wanted}
 use Rattle.reader.specs.declared.fault.Fault.{Fault}
+use Rattle.reader.specs.declared.fault.Layer.TheVariants as layer
 use Rattle.reader.specs.Faults.{Rank, rank, Before, Least, fault}
 use Rattle.reader.specs.Readable.{figures_of, InForm, Unreadable, ComesBack}
 use Rattle.verdict.specs.Lawful.{wanted_of, Lawful, Filed, NearTheBest}
@@ -28,7 +29,7 @@ check_passed (Some y) x r is t = absurd (let z : ◌≡◌ {A = ℕ} 0 1 = cc in
 
 module _ (k : KindsMeaning) (bs : List ℕ) where
   -- the kinds are turned down
-  pub steep_judged : (kinds_no k ≡ None → ⊥) → Judges k bs (Err (fault 3 Steep 0))
+  pub steep_judged : (kinds_no k ≡ None → ⊥) → Judges k bs (Err (fault layer.Figures Steep 0))
   steep_judged off = record {
     found = record { at = rank 0 0 0; cause = Steep; has = steep off; is = refl; before = λ q c has. none q };
     accepts = λ g filed. absurd (off filed.lawful.kinds);

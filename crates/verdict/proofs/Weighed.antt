@@ -16,6 +16,7 @@ use Rattle.objective.proofs.Searches.{off_none}
 use Rattle.objective.proofs.Weighing.{both_none, nothing_located}
 use Rattle.archive.specs.File.{Figures}
 use Rattle.reader.specs.declared.contents.Contents.{Contents}
+use Rattle.reader.specs.declared.fault.Layer.TheVariants as layer
 use Rattle.reader.specs.Faults.{Rank, Least, fault}
 use Rattle.reader.specs.Readable.{figures_of}
 use Rattle.verdict.specs.Stages.{head_no, Ready, Floored}
@@ -45,8 +46,8 @@ told_value None x v e = cc
 told_value (Some r) x v e = absurd (let z : ◌≡◌ {A = ℕ} 0 1 = cc in omega arith)
 
 -- a fault as a refusal tells it
-told_at : (Has : Rank → Cause → Type 0) (r : Refusal) (c : Cause) (found line above : ℕ) → r ≡ at c found → line ≡ above → Least Has (fault 3 c (above + found)) → Least Has (fault 3 r.cause (line + r.place))
-told_at Has r c found line above is same = subst (Least Has) (sym (ap₂ (fault 3) (ap (λ (r : Refusal). r.cause) is) (ap₂ (λ (a b : ℕ). a + b) same (ap (λ (r : Refusal). r.place) is))))
+told_at : (Has : Rank → Cause → Type 0) (r : Refusal) (c : Cause) (found line above : ℕ) → r ≡ at c found → line ≡ above → Least Has (fault layer.Figures c (above + found)) → Least Has (fault layer.Figures r.cause (line + r.place))
+told_at Has r c found line above is same = subst (Least Has) (sym (ap₂ (fault layer.Figures) (ap (λ (r : Refusal). r.cause) is) (ap₂ (λ (a b : ℕ). a + b) same (ap (λ (r : Refusal). r.place) is))))
 
 columns_long : (k : KindsMeaning) → KindsLaws k → (h : ℕ) (xs : List Reading) (d : ℕ) (ms : List ℤ) → Floorable k (pos h) xs (pos d) ms 240 → length (columns_of k xs ms) ≡ length xs
 columns_long k law h xs d ms f = (columned k law.roughness (pos h) xs (pos d) ms 240 f (multipliers_most k law.bend (pos h) xs (pos d) ms 240 f)).long
@@ -91,7 +92,7 @@ module _ (k : KindsMeaning) (g : Figures) (ready : Ready k g) where
   pub clear_ready : Clear k g 5
   clear_ready = clear_readings k g (clear_head k g set) ready.given.noted
 
-  pub table_stops : (r : Refusal) → weigh_table_no k (pos g.head.stiffness) g.readings g.entries 240 ≡ Some r → Least (Wrong k g) (fault 3 r.cause (length g.readings + 2 + r.place))
+  pub table_stops : (r : Refusal) → weigh_table_no k (pos g.head.stiffness) g.readings g.entries 240 ≡ Some r → Least (Wrong k g) (fault layer.Figures r.cause (length g.readings + 2 + r.place))
   table_stops r e =
       let long : unless (eqb (length g.entries) (length g.readings) && leb (length g.readings - told_reach k.roughness) 240) (at Length 0) ≡ None = grind (arith, ready.form.few, ready.form.fitting.count, ready.form.fitting.table) in
       let own = last (table_no k (length g.readings) g.entries 240) r (past _ _ r ready.given.noted (past _ _ r stiff e)) in
@@ -111,7 +112,7 @@ module _ (k : KindsMeaning) (g : Figures) (ready : Ready k g) where
       let own = last (multipliers_no k g.head.stiffness (length g.readings) (pos g.head.denominator) g.multipliers 240) r (past _ _ r ready.given.noted (past _ _ r stiff e)) in
       place_found Multiplier _ r (last _ r (past _ _ r denominator_fine (past _ _ r long (past _ _ r short (past _ _ r ready.kinds own)))))
 
-  pub slopes_stop : KindsLaws k → first_off is_value g.entries ≡ None → (r : Refusal) (line : ℕ) → (r.cause ≡ Multiplier → line ≡ length g.readings + length g.entries + 2) → (r.cause ≡ Column → line ≡ 2) → weigh_multipliers_no k (pos g.head.stiffness) g.readings (pos g.head.denominator) g.multipliers 240 ≡ Some r → Least (Wrong k g) (fault 3 r.cause (line + r.place))
+  pub slopes_stop : KindsLaws k → first_off is_value g.entries ≡ None → (r : Refusal) (line : ℕ) → (r.cause ≡ Multiplier → line ≡ length g.readings + length g.entries + 2) → (r.cause ≡ Column → line ≡ 2) → weigh_multipliers_no k (pos g.head.stiffness) g.readings (pos g.head.denominator) g.multipliers 240 ≡ Some r → Least (Wrong k g) (fault layer.Figures r.cause (line + r.place))
   slopes_stop law values r line above below e = ⊎_elim at_multiplier at_column (stopped_at before _ r e)
     where
       before : Option Refusal
@@ -120,12 +121,12 @@ module _ (k : KindsMeaning) (g : Figures) (ready : Ready k g) where
       columns : List ℤ
       columns = columns_of k g.readings g.multipliers
 
-      at_multiplier : before ≡ Some r → Least (Wrong k g) (fault 3 r.cause (line + r.place))
+      at_multiplier : before ≡ Some r → Least (Wrong k g) (fault layer.Figures r.cause (line + r.place))
       at_multiplier is =
           let f = slopes_found r is in
           told_at _ r Multiplier f.0 line _ f.2 (above (ap (λ (r : Refusal). r.cause) f.2)) (multipliers_stop k g (clear_tabled values) f.0 f.1)
 
-      at_column : (before ≡ None) × (columns_no k.misfit g.head.denominator columns g.readings ≡ Some r) → Least (Wrong k g) (fault 3 r.cause (line + r.place))
+      at_column : (before ≡ None) × (columns_no k.misfit g.head.denominator columns g.readings ≡ Some r) → Least (Wrong k g) (fault layer.Figures r.cause (line + r.place))
       at_column (fine, is) =
           let f = place_found Column (first_column_off k.misfit g.head.denominator 0 columns g.readings) r is in
           let u = floorable k (pos g.head.stiffness) g.readings (pos g.head.denominator) g.multipliers 240 fine in

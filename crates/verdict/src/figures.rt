@@ -16,7 +16,7 @@ use kinds::roughness::Roughness;
 use objective::gap::gap_between;
 use objective::trio::Kinds;
 use reader::contents::Contents;
-use reader::fault::Fault;
+use reader::fault::{Fault, Layer};
 
 // Whether the gap of the stated cost and floor is within the allowance.
 fn is_within(contents: &Contents) -> bool
@@ -39,10 +39,10 @@ fn check_end(contents: &Contents, cost: u64, floor: i64) -> Result<(), Fault>
     let n = contents.head.readings as usize;
     let line = n + n + contents.count + 2;
     if contents.cost != cost || contents.floor != floor {
-        return Err(Fault::new(3, Cause::Stated, line));
+        return Err(Fault::new(Layer::Figures, Cause::Stated, line));
     }
     if !is_within(contents) {
-        return Err(Fault::new(3, Cause::Gap, line));
+        return Err(Fault::new(Layer::Figures, Cause::Gap, line));
     }
     Ok(())
 }

@@ -11,7 +11,7 @@ use kinds::roughness::Roughness;
 use objective::checks::check_kinds;
 use objective::trio::Kinds;
 use reader::contents::{Contents, Wanted};
-use reader::fault::Fault;
+use reader::fault::{Fault, Layer};
 use reader::read::read_file;
 
 // The marks and the reach that the kinds tell.
@@ -34,7 +34,7 @@ pub fn judge<R: Roughness, M: Penalty, B: Penalty>(
     ensures { Judges (three (R.Roughness.meaning kinds.now.roughness) (M.Penalty.meaning kinds.now.misfit) (B.Penalty.meaning kinds.now.bend)) file.now result }
 {
     if check_kinds(kinds).is_err() {
-        return Err(Fault::new(3, Cause::Steep, 0));
+        return Err(Fault::new(Layer::Figures, Cause::Steep, 0));
     }
     let contents = read_file(file, Some(wanted_by(kinds)))?;
     check_figures(kinds, &contents)?;

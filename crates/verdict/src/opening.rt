@@ -11,13 +11,17 @@ use archive::figures::Head;
 use kinds::refusal::{Cause, Refusal};
 use objective::checks::check_readings;
 use reader::contents::Contents;
-use reader::fault::Fault;
+use reader::fault::{Fault, Layer};
 
 // A refusal as a fault, with its place counted from a line.
 pub(crate) fn fault_from(line: usize, refusal: Refusal) -> Fault
-    ensures { result ≡ fault 3 refusal.cause (line + refusal.place) }
+    ensures { result ≡ fault Layer.Figures refusal.cause (line + refusal.place) }
 {
-    Fault::new(3, refusal.cause, line.saturating_add(refusal.place))
+    Fault::new(
+        Layer::Figures,
+        refusal.cause,
+        line.saturating_add(refusal.place),
+    )
 }
 
 // A stiffness of 1 to 1,000 and an allowance of at most 10^12; then a denominator of 1 to 1,000.

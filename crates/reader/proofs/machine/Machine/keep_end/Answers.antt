@@ -12,10 +12,9 @@ returns c =
     let m' = c.advance.new.self in
     let e = c.advance.ensures.contents in
     let at = at_end m.contents.head.readings m.contents.count m.taken (sym c.requires.stage ∙ c.requires.running.waits) in
-    let f = c.requires.fields in
     let fits : SFits w64 c.long_signed-self.result = search rules in
-    let one = written 16 c.args.cost.now c.figure-self.result f.0 c.figure-self.ensures in
-    let two = written 16 c.args.floor.now (of_z w64 c.long_signed-self.result) f.1 c.long_signed-self.ensures in
+    let one = written 16 c.args.cost.bytes.now c.figure-self.result c.args.cost.sized c.figure-self.ensures in
+    let two = written 16 c.args.floor.bytes.now (of_z w64 c.long_signed-self.result) c.args.floor.sized c.long_signed-self.ensures in
     let cost = ap (λ x. x.cost) e in
     let floor = ap (λ x. x.floor) e ∙ to_z-of_z w64 c.long_signed-self.result fits in
     let h : SameHead m.contents m'.contents = record { head = ap (λ x. x.head) e; count = ap (λ x. x.count) e } in
