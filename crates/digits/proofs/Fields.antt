@@ -29,10 +29,6 @@ fits_more w x d h f = rw (add-one, pow-suc) (omega arith)
 pub fits_word : (w x : ℕ) → w ≤ 16 → Fits w x → x < 2 ^ 64
 fits_word w x h f = let most : 16 ^ w ≤ 16 ^ 16 = pow-le-pow_right (omega arith) h in omega arith
 
-pub field_none : (x : ℕ) → field 0 x ≡ []
-unfolding field
-field_none x = refl
-
 pub field_length : (w x : ℕ) → length (field w x) ≡ w
 unfolding field
 field_length zero x = refl
