@@ -21,7 +21,7 @@ impl Fault {
         let line = if line < 65_535 { line as u16 } else { 65_535 };
         Fault {
             layer,
-            number: cause.number(),
+            number: u8::from(cause),
             line,
         }
     }
