@@ -1,9 +1,9 @@
 -- From what the reader and the checks of the figures answer to what the judge promises.
-use Rattle.std.proofs.Common.{◌≡◌, ℕ, true, false, List, is_err, Some, None, Ok, Err, Option, Result, sym, refl, subst, inl, inr, arith}
+use Rattle.std.proofs.Common.{◌≡◌, ℕ, ◌+◌, List, Some, None, Ok, Err, Option, sym, refl, subst, inl, inr, arith}
 use Rattle.kinds.specs.declared.refusal.Cause.{Cause}
 use Rattle.kinds.specs.declared.refusal.Cause.TheVariants.{Steep}
 use Rattle.kinds.specs.declared.refusal.Refusal.{Refusal}
-use Rattle.kinds.specs.Checks.{answer}
+use Rattle.kinds.specs.Checks.{at}
 use Rattle.objective.specs.Checks.{kinds_no}
 use Rattle.objective.specs.Objective.{KindsMeaning, KindsLaws}
 use Rattle.archive.specs.File.{Figures, file}
@@ -18,23 +18,20 @@ use Rattle.verdict.specs.Verdicts.{Faulty, steep, unreadable, wrong, Judges}
 use Rattle.verdict.specs.Wrong.{Wrong}
 use Rattle.verdict.proofs.Passing.{no_wrong, lawful_in_form}
 
--- what the test of an answer says of its checks
-pub check_failed : {X : Type 0} (o : Option Refusal) (x : X) (r : Result X Refusal) → r ≡ answer o x → true ≡ is_err r → o ≡ None → ⊥
-check_failed None x r is t e = let z : ◌≡◌ {A = ℕ} 0 1 = cc in omega arith
-check_failed (Some y) x r is t e = let z : ◌≡◌ {A = ℕ} 0 1 = cc in omega arith
-
-pub check_passed : {X : Type 0} (o : Option Refusal) (x : X) (r : Result X Refusal) → r ≡ answer o x → false ≡ is_err r → o ≡ None
-check_passed None x r is t = refl
-check_passed (Some y) x r is t = absurd (let z : ◌≡◌ {A = ℕ} 0 1 = cc in omega arith)
-
 module _ (k : KindsMeaning) (bs : List ℕ) where
   -- the kinds are turned down
-  pub steep_judged : (kinds_no k ≡ None → ⊥) → Judges k bs (Err (fault layer.Figures Steep 0))
-  steep_judged off = record {
+  pub steep_judged : (r : Refusal) → kinds_no k ≡ Some r → Judges k bs (Err (fault layer.Figures r.cause (0 + r.place)))
+  steep_judged r no_because = subst (λ (r : Refusal). Judges k bs (Err (fault layer.Figures r.cause (0 + r.place)))) (sym is) (record {
     found = record { at = rank 0 0 0; cause = Steep; has = steep off; is = refl; before = λ q c has. none q };
     accepts = λ g filed. absurd (off filed.lawful.kinds);
-  }
+  })
     where
+      is : r ≡ at Steep 0
+      is = grind arith
+
+      off : kinds_no k ≡ None → ⊥
+      off e = let z : ◌≡◌ {A = ℕ} 0 1 = cc in omega arith
+
       none : (q : Rank) → Before q (rank 0 0 0) → ⊥
       none q (inl less) = omega arith
       none q (inr (same, inl less)) = omega arith

@@ -1,4 +1,5 @@
 pub mod Held
+pub mod Refused
 pub mod Places
 pub mod Clear
 pub mod Stops

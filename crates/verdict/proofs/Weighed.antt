@@ -1,26 +1,26 @@
 -- From the answers of the weighing calls to faults, and to lawful figures.
-use Rattle.std.proofs.Common.{◌≡◌, ℕ, ◌+◌, ◌-◌, ◌<◌, ◌&&◌, eqb, ltb, leb, ◌⊎◌, List, length, take, ℤ, pos, Some, None, Ok, Option, sym, refl, ap, ◌∙◌, subst, ap₂, inl, inr, ⊎_elim, arith, w64, to_z}
+use Rattle.std.proofs.Common.{◌≡◌, ℕ, ◌+◌, ◌-◌, ◌<◌, ◌&&◌, eqb, ltb, leb, ◌⊎◌, List, length, take, ℤ, pos, Some, None, Option, Result, sym, refl, ap, ◌∙◌, subst, ap₂, inl, inr, ⊎_elim, arith, w64, to_z}
 use Rattle.kinds.specs.declared.reading.Reading.{Reading}
 use Rattle.kinds.specs.declared.refusal.Cause.{Cause}
 use Rattle.kinds.specs.declared.refusal.Cause.TheVariants.{Length, Short, Value, Denominator, Multiplier, Column}
 use Rattle.kinds.specs.declared.refusal.Refusal.{Refusal}
-use Rattle.kinds.specs.Checks.{at, unless, located, or_else, first_off, answer}
+use Rattle.kinds.specs.Checks.{at, unless, located, or_else, first_off}
 use Rattle.kinds.specs.Penalty.{is_denominator}
 use Rattle.kinds.specs.Roughness.{told_reach}
-use Rattle.kinds.proofs.Passing.{passed}
 use Rattle.objective.specs.Checks.{is_value, stiffness_no, table_no, multipliers_no, columns_no, first_column_off, before_columns_no, weigh_table_no, weigh_multipliers_no}
-use Rattle.objective.specs.Objective.{KindsMeaning, KindsLaws, columns_of, floor_of}
-use Rattle.objective.specs.Promises.{NearBest, WeighsMultipliers}
+use Rattle.objective.specs.Objective.{KindsMeaning, KindsLaws, columns_of, cost_of, floor_of}
+use Rattle.objective.specs.Promises.{WeighsMultipliers}
 use Rattle.objective.proofs.Flooring.{Floorable, floorable, multipliers_most, columned}
 use Rattle.objective.proofs.Searches.{off_none}
 use Rattle.objective.proofs.Weighing.{both_none, nothing_located}
 use Rattle.archive.specs.File.{Figures}
 use Rattle.reader.specs.declared.contents.Contents.{Contents}
+use Rattle.reader.specs.declared.fault.Fault.{Fault}
 use Rattle.reader.specs.declared.fault.Layer.TheVariants as layer
 use Rattle.reader.specs.Faults.{Rank, Least, fault}
 use Rattle.reader.specs.Readable.{figures_of}
-use Rattle.verdict.specs.Stages.{head_no, Ready, Floored}
-use Rattle.verdict.specs.Wrong.{Wrong}
+use Rattle.verdict.specs.Stages.{head_no, Ready, Tabled, Floored}
+use Rattle.verdict.specs.Wrong.{lines_of, Wrong}
 use Rattle.verdict.proofs.Clear.{Clear, Settled, clear_head, clear_readings, clear_entries, clear_multipliers, clear_columns}
 use Rattle.verdict.proofs.Held.{slopes_handed}
 use Rattle.verdict.proofs.Stops.{settled, entries_stop, multipliers_stop, columns_stop}
@@ -41,10 +41,6 @@ stopped_at : (a b : Option Refusal) (r : Refusal) → or_else a b ≡ Some r →
 stopped_at None b r e = inr (refl, e)
 stopped_at (Some x) b r e = inl e
 
-told_value : {X : Type 0} (checks : Option Refusal) (x v : X) → Ok x ≡ answer checks v → x ≡ v
-told_value None x v e = cc
-told_value (Some r) x v e = absurd (let z : ◌≡◌ {A = ℕ} 0 1 = cc in omega arith)
-
 -- a fault as a refusal tells it
 told_at : (Has : Rank → Cause → Type 0) (r : Refusal) (c : Cause) (found line above : ℕ) → r ≡ at c found → line ≡ above → Least Has (fault layer.Figures c (above + found)) → Least Has (fault layer.Figures r.cause (line + r.place))
 told_at Has r c found line above is same = subst (Least Has) (sym (ap₂ (fault layer.Figures) (ap (λ (r : Refusal). r.cause) is) (ap₂ (λ (a b : ℕ). a + b) same (ap (λ (r : Refusal). r.place) is))))
@@ -60,21 +56,18 @@ clear_passed k law g before e =
     clear_columns k g (clear_multipliers k g before f.slopes) (columns_long k law g.head.stiffness g.readings g.head.denominator g.multipliers f) (nothing_located Column _ both.1)
 
 -- what the weighing of multipliers promises, of figures
-floored : (k : KindsMeaning) (g : Figures) (floor : ℤ) (before after : List ℤ) → length before ≡ 240 → WeighsMultipliers k (pos g.head.stiffness) g.readings (pos g.head.denominator) g.multipliers before after (Ok floor) → Floored k g floor
-floored k g floor before after room w =
-    let checks = weigh_multipliers_no k (pos g.head.stiffness) g.readings (pos g.head.denominator) g.multipliers (length before) in
-    let passes = passed checks _ _ w.answered in
+pub multipliers_weighed : (k : KindsMeaning) (c : Contents) (before after : List ℤ) (r : Result ℤ Refusal) → head_no c.head ≡ None → WeighsMultipliers k (to_z w64 c.head.stiffness) (take (c.head.readings - 0) c.readings) (to_z w64 c.head.denominator) (take (c.count - 0) c.multipliers) before after r → WeighsMultipliers k (pos c.head.stiffness) (figures_of c).readings (pos c.head.denominator) (figures_of c).multipliers before after r
+multipliers_weighed k c before after r e =
+    slopes_handed (λ (h : ℤ) (xs : List Reading) (d : ℤ) (ms : List ℤ). WeighsMultipliers k h xs d ms before after r) c e
+
+pub floored : (k : KindsMeaning) (g : Figures) (before after : List ℤ) (r : Result ℤ Refusal) → length before ≡ 240 → WeighsMultipliers k (pos g.head.stiffness) g.readings (pos g.head.denominator) g.multipliers before after r → weigh_multipliers_no k (pos g.head.stiffness) g.readings (pos g.head.denominator) g.multipliers (length before) ≡ None → Floored k g (floor_of k g.readings g.multipliers)
+floored k g before after r room w passes =
     let law = w.lawful passes in
-    let is : floor ≡ floor_of k g.readings g.multipliers = told_value checks floor _ w.answered in
     record {
       passes = subst (λ (room : ℕ). weigh_multipliers_no k (pos g.head.stiffness) g.readings (pos g.head.denominator) g.multipliers room ≡ None) room passes;
-      value = is;
-      near = subst (NearBest k g.head.stiffness g.readings g.head.denominator) (sym is) (w.near_best law.0 law.1);
+      value = refl;
+      near = w.near_best law.0 law.1;
     }
-
-pub floored_handed : (k : KindsMeaning) (c : Contents) (floor : ℤ) (before after : List ℤ) → length before ≡ 240 → head_no c.head ≡ None → WeighsMultipliers k (to_z w64 c.head.stiffness) (take (c.head.readings - 0) c.readings) (to_z w64 c.head.denominator) (take (c.count - 0) c.multipliers) before after (Ok floor) → Floored k (figures_of c) floor
-floored_handed k c floor before after room e w =
-    floored k (figures_of c) floor before after room (slopes_handed (λ (h : ℤ) (xs : List Reading) (d : ℤ) (ms : List ℤ). WeighsMultipliers k h xs d ms before after (Ok floor)) c e w)
 
 module _ (k : KindsMeaning) (g : Figures) (ready : Ready k g) where
   set : Settled g.head
@@ -99,6 +92,9 @@ module _ (k : KindsMeaning) (g : Figures) (ready : Ready k g) where
       let f = place_found Value (first_off is_value g.entries) r (last _ r (past _ _ r long (past _ _ r short (past _ _ r ready.kinds own)))) in
       told_at _ r Value f.0 _ _ f.2 refl (entries_stop k g clear_ready f.0 f.1)
 
+  pub tabled : weigh_table_no k (pos g.head.stiffness) g.readings g.entries 240 ≡ None → Tabled k g (cost_of k g.head.stiffness g.readings g.entries)
+  tabled e = record { values = grind arith; value = refl }
+
   pub clear_tabled : first_off is_value g.entries ≡ None → Clear k g 6
   clear_tabled e = clear_entries k g clear_ready (λ j h. off_none is_value 0 g.entries e j (pos 0) h)
 
@@ -112,8 +108,8 @@ module _ (k : KindsMeaning) (g : Figures) (ready : Ready k g) where
       let own = last (multipliers_no k g.head.stiffness (length g.readings) (pos g.head.denominator) g.multipliers 240) r (past _ _ r ready.given.noted (past _ _ r stiff e)) in
       place_found Multiplier _ r (last _ r (past _ _ r denominator_fine (past _ _ r long (past _ _ r short (past _ _ r ready.kinds own)))))
 
-  pub slopes_stop : KindsLaws k → first_off is_value g.entries ≡ None → (r : Refusal) (line : ℕ) → (r.cause ≡ Multiplier → line ≡ length g.readings + length g.entries + 2) → (r.cause ≡ Column → line ≡ 2) → weigh_multipliers_no k (pos g.head.stiffness) g.readings (pos g.head.denominator) g.multipliers 240 ≡ Some r → Least (Wrong k g) (fault layer.Figures r.cause (line + r.place))
-  slopes_stop law values r line above below e = ⊎_elim at_multiplier at_column (stopped_at before _ r e)
+  pub slopes_stop : KindsLaws k → first_off is_value g.entries ≡ None → (r : Refusal) (f : Fault) → (r.cause ≡ Multiplier → f ≡ fault layer.Figures Multiplier ((lines_of g).multipliers + r.place)) → (r.cause ≡ Column → f ≡ fault layer.Figures Column ((lines_of g).readings + r.place)) → weigh_multipliers_no k (pos g.head.stiffness) g.readings (pos g.head.denominator) g.multipliers 240 ≡ Some r → Least (Wrong k g) f
+  slopes_stop law values r f multiplier column e = ⊎_elim at_multiplier at_column (stopped_at before _ r e)
     where
       before : Option Refusal
       before = before_columns_no k (pos g.head.stiffness) g.readings (pos g.head.denominator) g.multipliers 240
@@ -121,14 +117,18 @@ module _ (k : KindsMeaning) (g : Figures) (ready : Ready k g) where
       columns : List ℤ
       columns = columns_of k g.readings g.multipliers
 
-      at_multiplier : before ≡ Some r → Least (Wrong k g) (fault layer.Figures r.cause (line + r.place))
-      at_multiplier is =
-          let f = slopes_found r is in
-          told_at _ r Multiplier f.0 line _ f.2 (above (ap (λ (r : Refusal). r.cause) f.2)) (multipliers_stop k g (clear_tabled values) f.0 f.1)
+      told : (c : Cause) (found line : ℕ) → r ≡ at c found → (r.cause ≡ c → f ≡ fault layer.Figures c (line + r.place)) → Least (Wrong k g) (fault layer.Figures c (line + found)) → Least (Wrong k g) f
+      told c found line is says least =
+          subst (Least (Wrong k g)) (sym (says (ap (λ (r : Refusal). r.cause) is) ∙ ap (λ (r : Refusal). fault layer.Figures c (line + r.place)) is)) least
 
-      at_column : (before ≡ None) × (columns_no k.misfit g.head.denominator columns g.readings ≡ Some r) → Least (Wrong k g) (fault layer.Figures r.cause (line + r.place))
+      at_multiplier : before ≡ Some r → Least (Wrong k g) f
+      at_multiplier is =
+          let p = slopes_found r is in
+          told Multiplier p.0 _ p.2 multiplier (multipliers_stop k g (clear_tabled values) p.0 p.1)
+
+      at_column : (before ≡ None) × (columns_no k.misfit g.head.denominator columns g.readings ≡ Some r) → Least (Wrong k g) f
       at_column (fine, is) =
-          let f = place_found Column (first_column_off k.misfit g.head.denominator 0 columns g.readings) r is in
+          let p = place_found Column (first_column_off k.misfit g.head.denominator 0 columns g.readings) r is in
           let u = floorable k (pos g.head.stiffness) g.readings (pos g.head.denominator) g.multipliers 240 fine in
           let long = columns_long k law g.head.stiffness g.readings g.head.denominator g.multipliers u in
-          told_at _ r Column f.0 line _ f.2 (below (ap (λ (r : Refusal). r.cause) f.2)) (columns_stop k g (clear_multipliers k g (clear_tabled values) u.slopes) long f.0 f.1)
+          told Column p.0 _ p.2 column (columns_stop k g (clear_multipliers k g (clear_tabled values) u.slopes) long p.0 p.1)

@@ -1,6 +1,7 @@
 -- The faults of figures that could be read.
 --     minute_before   the minute of the reading before a place, none for the first
 --     end_line        the line of the end, counted from 1
+--     lines_of        the first line of each part behind the head
 --     Wrong           the faults of figures under three kinds, at their ranks
 -- Line 1 is the head; then come n readings, n entries, the multipliers and the end.
 use Rattle.std.specs.Prelude.{◌≡◌, ℕ, zero, suc, ◌+◌, ◌<◌, false, ◌&&◌, List, length, get_or, ℤ, pos, neg_ℤ, Some, None, Option, slice_index_or, unsigned_abs}
@@ -13,6 +14,7 @@ use Rattle.objective.specs.Checks.{is_stiffness, is_allowance, is_value, has_fig
 use Rattle.objective.specs.Objective.{KindsMeaning, columns_of, cost_of, floor_of, within}
 use Rattle.archive.specs.File.{Figures}
 use Rattle.reader.specs.Faults.{Rank, rank}
+use Rattle.verdict.specs.declared.lines.Lines.{Lines}
 pub use Rattle.reader.specs.Steps.{no_reading}
 
 abbrev pub minute_before : List Reading → ℕ → Option ℤ
@@ -21,6 +23,14 @@ minute_before xs (suc j) = Some (get_or xs j no_reading).minute
 
 abbrev pub end_line : Figures → ℕ
 end_line g = length g.readings + length g.entries + length g.multipliers + 2
+
+abbrev pub lines_of : Figures → Lines
+lines_of g = record {
+  readings = 2;
+  entries = length g.readings + 2;
+  multipliers = length g.readings + length g.entries + 2;
+  end = end_line g;
+}
 
 pub data Wrong (k : KindsMeaning) (g : Figures) : Rank → Cause → Type 0 where
   -- stiffness or allowance out of range

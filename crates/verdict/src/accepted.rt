@@ -13,29 +13,30 @@ const NO_PLACE: Refusal = Refusal {
     place: 0,
 };
 
+// The figure at a place of a list.
+fn figure_at<T: Copy>(figures: &[T], place: usize) -> Result<T, Refusal>
+    ensures { (past : T) → result ≡ figure_at figures.now place past }
+{
+    figures.get(place).copied().ok_or(NO_PLACE)
+}
+
 pub fn reading(contents: &Contents, place: usize) -> Result<Reading, Refusal>
     ensures { result ≡ figure_at (figures_of contents.now).readings place no_reading }
 {
-    if place >= contents.head.readings as usize {
-        return Err(NO_PLACE);
-    }
-    Ok(contents.readings[place])
+    figure_at(
+        &contents.readings[0..contents.head.readings as usize],
+        place,
+    )
 }
 
 pub fn entry(contents: &Contents, place: usize) -> Result<i64, Refusal>
     ensures { result ≡ figure_at (figures_of contents.now).entries place (pos 0) }
 {
-    if place >= contents.head.readings as usize {
-        return Err(NO_PLACE);
-    }
-    Ok(contents.entries[place])
+    figure_at(&contents.entries[0..contents.head.readings as usize], place)
 }
 
 pub fn multiplier(contents: &Contents, place: usize) -> Result<i64, Refusal>
     ensures { result ≡ figure_at (figures_of contents.now).multipliers place (pos 0) }
 {
-    if place >= contents.count {
-        return Err(NO_PLACE);
-    }
-    Ok(contents.multipliers[place])
+    figure_at(&contents.multipliers[0..contents.count], place)
 }

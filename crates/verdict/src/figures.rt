@@ -8,6 +8,7 @@ ghost use Rattle.verdict.specs.Lawful.{wanted_of, Lawful, NearTheBest};
 ghost use Rattle.verdict.specs.Stages.{head_no, EndFine, EndOff};
 ghost use Rattle.verdict.specs.Wrong.{Wrong};
 
+use crate::lines::Lines;
 use crate::opening::check_given;
 use crate::weighing::{weigh_entries, weigh_slopes};
 use kinds::penalty::Penalty;
@@ -25,10 +26,7 @@ fn is_within(contents: &Contents) -> bool
 {
     let denominator = contents.head.denominator as i64;
     let allowance = contents.head.allowance as i64;
-    match gap_between(contents.cost, contents.floor, denominator, allowance) {
-        Ok(gap) => gap.within,
-        Err(_) => false,
-    }
+    gap_between(contents.cost, contents.floor, denominator, allowance).is_ok_and(|gap| gap.within)
 }
 
 // The end, in the last line: cost and floor against those that are stated, then their gap.
@@ -36,8 +34,7 @@ fn check_end(contents: &Contents, cost: u64, floor: i64) -> Result<(), Fault>
     requires { head_no contents.now.head ≡ None }
     ensures { MatchResult result (λ _. EndFine (figures_of contents.now) cost floor) (λ f. EndOff (figures_of contents.now) cost floor f) }
 {
-    let n = contents.head.readings as usize;
-    let line = n + n + contents.count + 2;
+    let line = Lines::of(contents).end;
     if contents.cost != cost || contents.floor != floor {
         return Err(Fault::new(Layer::Figures, Cause::Stated, line));
     }

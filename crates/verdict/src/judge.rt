@@ -5,8 +5,8 @@ ghost use Rattle.verdict.specs.Lawful.{wanted_of};
 ghost use Rattle.verdict.specs.Verdicts.{Judges};
 
 use crate::figures::check_figures;
+use crate::lines::fault_from;
 use kinds::penalty::Penalty;
-use kinds::refusal::Cause;
 use kinds::roughness::Roughness;
 use objective::checks::check_kinds;
 use objective::trio::Kinds;
@@ -33,9 +33,7 @@ pub fn judge<R: Roughness, M: Penalty, B: Penalty>(
 ) -> Result<Contents, Fault>
     ensures { Judges (three (R.Roughness.meaning kinds.now.roughness) (M.Penalty.meaning kinds.now.misfit) (B.Penalty.meaning kinds.now.bend)) file.now result }
 {
-    if check_kinds(kinds).is_err() {
-        return Err(Fault::new(Layer::Figures, Cause::Steep, 0));
-    }
+    check_kinds(kinds).map_err(|refusal| fault_from(0, refusal))?;
     let contents = read_file(file, Some(wanted_by(kinds)))?;
     check_figures(kinds, &contents)?;
     Ok(contents)

@@ -4,5 +4,6 @@
 pub mod accepted;
 mod figures;
 pub mod judge;
+mod lines;
 mod opening;
 mod weighing;

@@ -1,28 +1,18 @@
 // The checks of a file's head and readings.
-ghost use Rattle.std.specs.Prelude.{◌≡◌, ◌+◌, MatchResult};
+ghost use Rattle.std.specs.Prelude.{◌≡◌, MatchResult};
 ghost use Rattle.kinds.specs.Checks.{answer};
 ghost use Rattle.objective.specs.Objective.{KindsMeaning};
-ghost use Rattle.reader.specs.Faults.{fault, Least};
+ghost use Rattle.reader.specs.Faults.{Least};
 ghost use Rattle.reader.specs.Readable.{figures_of};
 ghost use Rattle.verdict.specs.Stages.{head_no, InOrder};
 ghost use Rattle.verdict.specs.Wrong.{Wrong};
 
+use crate::lines::fault_from;
 use archive::figures::Head;
 use kinds::refusal::{Cause, Refusal};
 use objective::checks::check_readings;
 use reader::contents::Contents;
-use reader::fault::{Fault, Layer};
-
-// A refusal as a fault, with its place counted from a line.
-pub(crate) fn fault_from(line: usize, refusal: Refusal) -> Fault
-    ensures { result ≡ fault Layer.Figures refusal.cause (line + refusal.place) }
-{
-    Fault::new(
-        Layer::Figures,
-        refusal.cause,
-        line.saturating_add(refusal.place),
-    )
-}
+use reader::fault::Fault;
 
 // A stiffness of 1 to 1,000 and an allowance of at most 10^12; then a denominator of 1 to 1,000.
 fn check_head(head: &Head) -> Result<(), Refusal>
@@ -47,12 +37,7 @@ fn check_head(head: &Head) -> Result<(), Refusal>
 pub(crate) fn check_given(contents: &Contents) -> Result<(), Fault>
     ensures { MatchResult result (λ _. InOrder (figures_of contents.now)) (λ f. (k : KindsMeaning) → Least (Wrong k (figures_of contents.now)) f) }
 {
-    if let Err(refusal) = check_head(&contents.head) {
-        return Err(fault_from(1, refusal));
-    }
+    check_head(&contents.head).map_err(|refusal| fault_from(1, refusal))?;
     let n = contents.head.readings as usize;
-    if let Err(refusal) = check_readings(&contents.readings[0..n]) {
-        return Err(fault_from(2, refusal));
-    }
-    Ok(())
+    check_readings(&contents.readings[0..n]).map_err(|refusal| fault_from(2, refusal))
 }

@@ -1,22 +1,22 @@
 // The checks of a file's entries and multipliers, which are weighed.
-ghost use Rattle.std.specs.Prelude.{◌≡◌, ◌+◌, ◌≤◌, None, MatchResult};
+ghost use Rattle.std.specs.Prelude.{◌≡◌, ◌+◌, None, MatchResult};
 ghost use Rattle.kinds.specs.declared.refusal.Cause.TheVariants.{Multiplier, Column};
 ghost use Rattle.kinds.specs.Checks.{first_off};
 ghost use Rattle.objective.specs.Checks.{is_value};
 ghost use Rattle.objective.specs.Objective.{three};
-ghost use Rattle.reader.specs.Faults.{Least};
+ghost use Rattle.reader.specs.Faults.{fault, Least};
 ghost use Rattle.reader.specs.Readable.{figures_of};
 ghost use Rattle.verdict.specs.Stages.{Ready, Tabled, Floored};
-ghost use Rattle.verdict.specs.Wrong.{Wrong};
+ghost use Rattle.verdict.specs.Wrong.{lines_of, Wrong};
 
-use crate::opening::fault_from;
+use crate::lines::{Lines, fault_from};
 use kinds::penalty::Penalty;
-use kinds::refusal::Cause;
+use kinds::refusal::{Cause, Refusal};
 use kinds::roughness::Roughness;
 use objective::trio::Kinds;
 use objective::weigh::{weigh_multipliers, weigh_table};
 use reader::contents::Contents;
-use reader::fault::Fault;
+use reader::fault::{Fault, Layer};
 
 // The cost of the entries, which stand behind the readings.
 pub(crate) fn weigh_entries<R: Roughness, M: Penalty, B: Penalty>(
@@ -28,27 +28,25 @@ pub(crate) fn weigh_entries<R: Roughness, M: Penalty, B: Penalty>(
 {
     let n = contents.head.readings as usize;
     let mut rows = [0; 240];
-    match weigh_table(
+    weigh_table(
         kinds,
         contents.head.stiffness as i64,
         &contents.readings[0..n],
         &contents.entries[0..n],
         &mut rows,
-    ) {
-        Ok(cost) => Ok(cost),
-        Err(refusal) => Err(fault_from(n + 2, refusal)),
-    }
+    )
+    .map_err(|refusal| fault_from(Lines::of(contents).entries, refusal))
 }
 
-// The line from which a refusal of multipliers counts its place: columns stand at their readings.
-fn first_line(n: usize, cause: Cause) -> usize
-    requires { n ≤ 240 }
-    ensures multiplier { cause ≡ Multiplier → result ≡ n + n + 2 }
-    ensures column { cause ≡ Column → result ≡ 2 }
+// A refusal of multipliers, at its line. A column stands at its reading.
+fn slope_fault(contents: &Contents, refusal: Refusal) -> Fault
+    ensures multiplier { refusal.cause ≡ Multiplier → result ≡ fault Layer.Figures Multiplier ((lines_of (figures_of contents.now)).multipliers + refusal.place) }
+    ensures column { refusal.cause ≡ Column → result ≡ fault Layer.Figures Column ((lines_of (figures_of contents.now)).readings + refusal.place) }
 {
-    match cause {
-        Cause::Column => 2,
-        _ => n + n + 2,
+    let lines = Lines::of(contents);
+    match refusal.cause {
+        Cause::Column => fault_from(lines.readings, refusal),
+        _ => fault_from(lines.multipliers, refusal),
     }
 }
 
@@ -63,15 +61,13 @@ pub(crate) fn weigh_slopes<R: Roughness, M: Penalty, B: Penalty>(
 {
     let n = contents.head.readings as usize;
     let mut columns = [0; 240];
-    match weigh_multipliers(
+    weigh_multipliers(
         kinds,
         contents.head.stiffness as i64,
         &contents.readings[0..n],
         contents.head.denominator as i64,
         &contents.multipliers[0..contents.count],
         &mut columns,
-    ) {
-        Ok(floor) => Ok(floor),
-        Err(refusal) => Err(fault_from(first_line(n, refusal.cause), refusal)),
-    }
+    )
+    .map_err(|refusal| slope_fault(contents, refusal))
 }

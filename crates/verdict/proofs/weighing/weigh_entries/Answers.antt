@@ -1,20 +1,24 @@
-use Rattle.std.proofs.Common.{◌≡◌, ℕ, ◌+◌, List, ℤ, Some, subst}
+use Rattle.std.proofs.Common.{◌≡◌, ◌+◌, List, ℤ, unsigned_abs, rules}
 use Rattle.kinds.specs.declared.reading.Reading.{Reading}
-use Rattle.kinds.proofs.Passing.{refused}
+use Rattle.kinds.specs.Checks.{answer}
 use Rattle.objective.specs.Checks.{weigh_table_no}
-use Rattle.objective.specs.Objective.{three}
+use Rattle.objective.specs.Objective.{three, cost_of}
 use Rattle.reader.specs.declared.fault.Layer.TheVariants as layer
 use Rattle.reader.specs.Faults.{Least, fault}
 use Rattle.reader.specs.Readable.{figures_of}
-use Rattle.verdict.specs.Wrong.{Wrong}
-use Rattle.verdict.proofs.Held.{readings_held, table_handed}
-use Rattle.verdict.proofs.Weighed.{table_stops}
+use Rattle.verdict.specs.Stages.{Tabled}
+use Rattle.verdict.specs.Wrong.{lines_of, Wrong}
+use Rattle.verdict.proofs.Held.{table_handed}
+use Rattle.verdict.proofs.Refused.{faulted}
+use Rattle.verdict.proofs.Weighed.{tabled, table_stops}
 use Rattle.verdict.proofs.weighing.weigh_entries.Goals as goal
 
-pub returns-in-Err : goal.returns-in-Err
-returns-in-Err g c =
+pub returns : goal.returns
+returns g c =
     let k = three (g.R.Roughness.meaning c.args.kinds.now.roughness) (g.M.Penalty.meaning c.args.kinds.now.misfit) (g.B.Penalty.meaning c.args.kinds.now.bend) in
     let contents = c.args.contents.now in
-    let r = c.in-Err.refusal in
-    let no_because = table_handed (λ (h : ℤ) (xs : List Reading) (vs : List ℤ). weigh_table_no k h xs vs 240 ≡ Some r) contents c.requires.given.head (refused _ _ _ c.in-Err.ensures.answered) in
-    rw c.fault_from.ensures (subst (λ (n : ℕ). Least (Wrong k (figures_of contents)) (fault layer.Figures r.cause (n + 2 + r.place))) (readings_held contents) (table_stops k (figures_of contents) c.requires r no_because))
+    let figures = figures_of contents in
+    let answered = table_handed (λ (h : ℤ) (xs : List Reading) (vs : List ℤ). c.weigh_table.result ≡ answer (weigh_table_no k h xs vs 240) (cost_of k (unsigned_abs h) xs vs)) contents c.requires.given.head c.weigh_table.ensures.answered in
+    faulted _ (Tabled k figures) (Least (Wrong k figures)) _ _ c.weigh_table.result c.map_err.result answered c.map_err.ensures.cases (tabled k figures c.requires) (λ e f off told.
+    let is : f ≡ fault layer.Figures e.cause ((lines_of figures).entries + e.place) = search rules in
+    rw is (table_stops k figures c.requires e off))

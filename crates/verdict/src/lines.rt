@@ -1,0 +1,46 @@
+// The lines in which the parts of a file begin.
+ghost use Rattle.std.specs.Prelude.{◌≡◌, ◌+◌};
+ghost use Rattle.reader.specs.Faults.{fault};
+ghost use Rattle.reader.specs.Readable.{figures_of};
+ghost use Rattle.verdict.specs.Wrong.{lines_of};
+
+use kinds::refusal::Refusal;
+use reader::contents::Contents;
+use reader::fault::{Fault, Layer};
+
+// The first line of each part that stands behind the head, counted from 1.
+#[derive(Clone, Copy)]
+pub(crate) struct Lines {
+    pub readings: usize,
+    pub entries: usize,
+    pub multipliers: usize,
+    pub end: usize,
+}
+
+impl Lines {
+    pub(crate) fn of(contents: &Contents) -> Lines
+        ensures { result ≡ lines_of (figures_of contents.now) }
+    {
+        let count = contents.head.readings as usize;
+        let readings = 2;
+        let entries = readings + count;
+        let multipliers = entries + count;
+        Lines {
+            readings,
+            entries,
+            multipliers,
+            end: multipliers + contents.count,
+        }
+    }
+}
+
+// A refusal as a fault, with its place counted from a line.
+pub(crate) fn fault_from(line: usize, refusal: Refusal) -> Fault
+    ensures { result ≡ fault Layer.Figures refusal.cause (line + refusal.place) }
+{
+    Fault::new(
+        Layer::Figures,
+        refusal.cause,
+        line.saturating_add(refusal.place),
+    )
+}
