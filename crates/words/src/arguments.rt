@@ -70,7 +70,7 @@ fn write_figures(mut words: Words, place: &mut [i64])
     ensures { place.new ≡ written (leading (words_left words.entry)) place.old }
 {
     for slot in place.iter_mut() {
-        let Some(next) = words.next_as() else {
+        let Some(next) = words.next_as::<i64>() else {
             return;
         };
         *slot = next;
