@@ -30,45 +30,10 @@ pub counted_all : (n : ℕ) (ws : List (List ℕ)) → ws ≡ [] → Some n ≡ 
 unfolding figures_of
 counted_all n ws e = rw e (ap Some (omega arith))
 
-leading_stops : (ws : List (List ℕ)) → None ≡ first_as figure_of ws → leading ws ≡ []
-leading_stops [] e = refl
-leading_stops (w ∷ ws) e = rw (sym e) refl
-
-leading_next : (ws : List (List ℕ)) (f : ℤ) → Some f ≡ first_as figure_of ws → leading ws ≡ f ∷ leading (behind ws)
-leading_next [] f e = absurd (let z : ◌≡◌ {A = ℕ} 0 1 = cc in omega arith)
-leading_next (w ∷ ws) f e = rw (sym e) refl
-
 -- i figures of the words are written into a place, and the words ws are left
 pub record Written (all ws : List (List ℕ)) (old at : List ℤ) (i : ℕ) : Type 0 where
   pub front : take i at ++ leading ws ≡ leading all
   pub rest : drop i at ≡ drop i old
-
-pub written_none : (all : List (List ℕ)) (old : List ℤ) → Written all all old old 0
-written_none all old = record { front = refl; rest = refl }
-
-module _ (all ws : List (List ℕ)) (old at : List ℤ) (i : ℕ) (d : Written all ws old at i) where
-  pub written_more : (f stored : ℤ) (left : List (List ℕ)) → i < length at → Some f ≡ first_as figure_of ws → left ≡ behind ws
-      → stored ≡ f → Written all left old (set at i stored) (i + 1)
-  written_more f stored left lt first others same =
-      let e : leading ws ≡ stored ∷ leading left = rw (others, same) (leading_next ws f first) in
-      record {
-        front = rw (take_more_set at i stored lt, append_assoc) (ap (λ fs. take i at ++ fs) (sym e) ∙ d.front);
-        rest = drop-set-lt (i + 1) at i stored (omega arith) ∙ sym (drop-drop 1 i at) ∙ ap (drop 1) d.rest ∙ drop-drop 1 i old;
-      }
-
-  pub written_end : None ≡ first_as figure_of ws → i ≤ length at → length at ≡ length old → at ≡ written (leading all) old
-  written_end none le same =
-      let f : leading all ≡ take i at = sym d.front ∙ ap (λ fs. take i at ++ fs) (leading_stops ws none) ∙ append-nil (take i at) in
-      let n : length (take i at) ≡ i = length-take-le i at le in
-      let t : take (length old) (take i at) ≡ take i at = take_all (length old) (take i at) (omega arith) in
-      rw (f, t, n) (sym (take-append-drop i at) ∙ ap (λ fs. take i at ++ fs) d.rest)
-
-  pub written_full : length at ≤ i → length at ≡ length old → at ≡ written (leading all) old
-  written_full le same =
-      let f : leading all ≡ at ++ leading ws = sym d.front ∙ ap (λ fs. fs ++ leading ws) (take_all i at le) in
-      let t : take (length old) (at ++ leading ws) ≡ at = take_at at (leading ws) (length old) same in
-      let n : drop (length (at ++ leading ws)) old ≡ [] = drop_all _ old (omega (arith, length-append at (leading ws))) in
-      rw (f, t, n) (sym (append-nil at))
 
 -- where each word is a figure, those at the front are all of them
 leading_more : (f : ℤ) (o : Option (List ℤ)) (fs gs : List ℤ) → ((hs : List ℤ) → o ≡ Some hs → gs ≡ hs) → and_then o (λ hs. Some (f ∷ hs)) ≡ Some fs → f ∷ gs ≡ fs
@@ -90,7 +55,3 @@ written_listed ws place n e = go (figures_of ws) refl e
     go : (o : Option (List ℤ)) → figures_of ws ≡ o → Some n ≡ count_of o → written (leading ws) place ≡ place_after o place
     go None is c = absurd (let z : ◌≡◌ {A = ℕ} 0 1 = cc in omega arith)
     go (Some fs) is c = ap (λ gs. written gs place) (leading_all ws fs is)
-
-pub place_kept : (o : Option (List ℤ)) (place : List ℤ) → None ≡ count_of o → place ≡ place_after o place
-place_kept None place e = refl
-place_kept (Some fs) place e = absurd (let z : ◌≡◌ {A = ℕ} 0 1 = cc in omega arith)
