@@ -14,9 +14,6 @@ pub record Summed (ds : List ℕ) (i m : ℕ) : Type 0 where
   pub digits : all_digits ds ≡ all_digits (drop i ds)
   pub whole : value ds ≡ m * 10 ^ length (drop i ds) + value (drop i ds)
 
-pub summed_none : (ds : List ℕ) → Summed ds 0 0
-summed_none ds = record { digits = refl; whole = omega arith }
-
 place : (m d n v : ℕ) → m * 10 ^ suc n + (d * 10 ^ n + v) ≡ (m * 10 + d) * 10 ^ n + v
 place m d n v = simp (pow-succ', add-mul, mul_assoc, add_assoc)
 
@@ -29,17 +26,6 @@ module _ (ds : List ℕ) (i m : ℕ) (s : Summed ds i m) where
 
   pub summed_least : m ≤ value ds
   summed_least = omega (arith, s.whole, le-mul_of_pos_right m (one-le-pow (length (drop i ds)) 10 (omega arith)))
-
-  not_numeral : (cs : List ℕ) → all_digits cs ≡ false → is_numeral cs ≡ false
-  not_numeral [] e = refl
-  not_numeral (c ∷ cs) e = e
-
-  pub size_not_digit : (limit : ℕ) → i < length ds → is_digit (get_or ds i 0) ≡ false → None ≡ size_of limit ds
-  size_not_digit limit lt e =
-      let d = drop_more ds i 0 lt in
-      let a : all_digits (drop i ds) ≡ false = rw (d, e) refl in
-      let n : is_numeral ds ≡ false = not_numeral ds (s.digits ∙ a) in
-      rw n refl
 
   is_numeral_some : (cs : List ℕ) → 0 < length cs → all_digits cs ≡ true → is_numeral cs ≡ true
   is_numeral_some [] h e = absurd (omega arith)
@@ -56,10 +42,6 @@ module _ (ds : List ℕ) (i m : ℕ) (s : Summed ds i m) where
       let v : value ds ≡ m = omega arith in
       let b : leb (value ds) limit ≡ true = le-leb (value ds) limit (omega arith) in
       rw (n, b, v) refl
-
-pub size_empty : (limit : ℕ) (ds : List ℕ) → length ds ≡ 0 → None ≡ size_of limit ds
-size_empty limit [] h = refl
-size_empty limit (d ∷ ds) h = absurd (omega arith)
 
 pub size_large : (limit : ℕ) (ds : List ℕ) → limit < value ds → None ≡ size_of limit ds
 size_large limit ds lt =

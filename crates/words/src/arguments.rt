@@ -1,5 +1,5 @@
 // The words that stand behind the name of a call: one read as what it stands for, or all of them as figures.
-ghost use Rattle.std.specs.Prelude.{◌≡◌, ℕ, List, Option};
+ghost use Rattle.std.specs.Prelude.{◌≡◌, ℕ, List, Option, is_some};
 ghost use Rattle.words.specs.Arguments.{figures_of, count_of, leading, written, place_after, first_as, behind};
 ghost use Rattle.words.specs.Cursor.{words_left};
 ghost use Rattle.words.specs.Figures.{figure_of};
@@ -53,16 +53,11 @@ impl<'a> Words<'a> {
     }
 }
 
-// How many figures the words are, if each of them is one.
-fn count_figures(words: Words) -> Option<usize>
-    ensures { result ≡ count_of (figures_of (words_left words.entry)) }
+// Whether each of the words is a figure.
+fn all_figures(mut words: Words) -> bool
+    ensures { result ≡ is_some (figures_of (words_left words.entry)) }
 {
-    let mut count = 0;
-    for word in words {
-        figure(word)?;
-        count += 1;
-    }
-    Some(count)
+    words.all(|word| figure(word).is_some())
 }
 
 // Writes the figures at the front of the words at the start of `place`, as far as they fit.
@@ -70,7 +65,7 @@ fn write_figures(mut words: Words, place: &mut [i64])
     ensures { place.new ≡ written (leading (words_left words.entry)) place.old }
 {
     for slot in place.iter_mut() {
-        let Some(next) = words.next_as() else {
+        let Some(next) = words.next_as::<i64>() else {
             return;
         };
         *slot = next;
@@ -82,7 +77,9 @@ pub(crate) fn list_figures(words: Words, place: &mut [i64]) -> Option<usize>
     ensures count { result ≡ count_of (figures_of (words_left words.entry)) }
     ensures place { place.new ≡ place_after (figures_of (words_left words.entry)) place.old }
 {
-    let count = count_figures(words)?;
+    if !all_figures(words) {
+        return None;
+    }
     write_figures(words, place);
-    Some(count)
+    Some(words.count())
 }

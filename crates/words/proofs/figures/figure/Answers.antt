@@ -1,4 +1,4 @@
-use Rattle.std.proofs.Common.{◌≡◌, ◌-◌, ◌^◌, drop, Some, None, sym, ◌∙◌, arith}
+use Rattle.std.proofs.Common.{◌≡◌, ◌-◌, ◌^◌, drop, pos, ◌+ℤ◌, ◌-ℤ◌, Some, None, sym, ◌∙◌, arith}
 use Rattle.std.proofs.lemmas.Int.{ints}
 use Rattle.words.specs.Figures.{size_of}
 use Rattle.words.proofs.Decimal.{strip_begins, minus_missed, minus_sized, plain_missed, plain_sized}
@@ -15,8 +15,9 @@ pub returns-in_ok-size-in-Some : goal.returns-in_ok-size-in-Some
 returns-in_ok-size-in-Some c =
     let w = c.args.word.now in
     let cases = c.in-Some.ensures.cases in
-    let some : Some c.in_ok-size-in-Some.field-0 ≡ size_of (2 ^ 64 - 1) (drop 1 w) = rw cases.1 at c.in_ok-size-in-Some.ensures in
-    minus_sized w (sym cases.0 ∙ strip_begins w) _ some _ (omega (arith, ints)) _ c.checked_sub_unsigned.ensures
+    let n = c.in_ok-size-in-Some.field-0 in
+    let some : Some n ≡ size_of (2 ^ 64 - 1) (drop 1 w) = rw cases.1 at c.in_ok-size-in-Some.ensures in
+    minus_sized w (sym cases.0 ∙ strip_begins w) n some (pos 0 -ℤ pos n) (omega (arith, ints)) _ c.checked_sub_unsigned.ensures
 
 pub returns-in_err-size-in-None : goal.returns-in_err-size-in-None
 returns-in_err-size-in-None c =
@@ -26,4 +27,5 @@ returns-in_err-size-in-None c =
 pub returns-in_ok-size-in-None : goal.returns-in_ok-size-in-None
 returns-in_ok-size-in-None c =
     let w = c.args.word.now in
-    plain_sized w (sym c.in-None.ensures.cases ∙ strip_begins w) _ c.in_ok-size-in-None.ensures _ (omega (arith, ints)) _ c.checked_add_unsigned.ensures
+    let n = c.in_ok-size-in-None.field-0 in
+    plain_sized w (sym c.in-None.ensures.cases ∙ strip_begins w) n c.in_ok-size-in-None.ensures (pos 0 +ℤ pos n) (omega (arith, ints)) _ c.checked_add_unsigned.ensures
