@@ -23,10 +23,7 @@ impl Lopsided {
         ensures { sides_made result (λ k. k.sides.rise) (λ k. k.sides.fall) ≡ answer (sides_no rise fall) (rise, fall) }
     {
         if !(1..=STEEPEST).contains(&rise) || !(1..=STEEPEST).contains(&fall) {
-            return Err(Refusal {
-                cause: Cause::Setting,
-                place: 0,
-            });
+            return Err(Cause::Setting.into());
         }
         Ok(Lopsided {
             sides: Sides {
