@@ -1,8 +1,8 @@
 // The stages at which a list is written: what the frames of each list are.
-ghost use Rattle.std.specs.Prelude.{◌≡◌, ℕ, ◌+◌, ◌≤◌, Bool, true, List, length, refl};
+ghost use Rattle.std.specs.Prelude.{◌≡◌, ℕ, Bool, true, List, length, refl};
 ghost use Rattle.archive.specs.declared.stages.Progress.{Progress};
 ghost use Rattle.archive.specs.File.{reading_text, entry_text, multiplier_text, line, reading_fits, entry_fits, multiplier_fits};
-ghost use Rattle.archive.specs.Writing.{Puts, moved_on, reading_width, entry_width, multiplier_width};
+ghost use Rattle.archive.specs.Writing.{moved_on, reading_width, entry_width, multiplier_width};
 
 use crate::put::put_line;
 use crate::stages::{AtEntries, AtMultipliers, AtReadings, Progress, Stage};
@@ -32,12 +32,11 @@ pub(crate) trait ListStage: Stage + Copy {
     fn fits(figure: Self::Figure) -> bool
         ensures { result ≡ test figure };
 
-    // Puts the frame at the place `next` into a file's place; the answer is where the next frame begins.
-    fn put(place: &mut [u8], at: usize, next: usize, figure: Self::Figure) -> usize
+    // Writes the frame that comes next over a part that is as long.
+    fn put(part: &mut [u8], progress: Progress, figure: Self::Figure)
         requires fits { test figure ≡ true }
-        requires room { at + WIDTH ≤ length place.old }
-        ensures puts { Puts place.old place.new at result (line (text next figure)) }
-        ensures stops { result ≡ at + WIDTH };
+        requires long { length part.old ≡ WIDTH }
+        ensures { part.new ≡ line (text progress.next figure) };
 
     // frames that are written do not change the count
     ghost counted: { (p : Progress) (i k : ℕ) → count (moved_on p i k) ≡ count p };
@@ -68,21 +67,20 @@ impl ListStage for AtReadings {
             && u16::try_from(reading.weight).is_ok()
     }
 
-    fn put(place: &mut [u8], at: usize, next: usize, reading: Reading) -> usize {
+    fn put(part: &mut [u8], progress: Progress, reading: Reading) {
         let minute = reading.minute.unsigned_abs();
         let crude = reading.crude.unsigned_abs();
         let weight = reading.weight.unsigned_abs();
         put_line(
-            place,
-            at,
+            part,
             &[
                 (2, 0x02),
-                (4, next as u64),
+                (4, progress.next as u64),
                 (8, minute),
                 (4, crude),
                 (4, weight),
             ],
-        )
+        );
     }
 }
 
@@ -109,9 +107,9 @@ impl ListStage for AtEntries {
         u16::try_from(value).is_ok()
     }
 
-    fn put(place: &mut [u8], at: usize, next: usize, value: i64) -> usize {
+    fn put(part: &mut [u8], progress: Progress, value: i64) {
         let figure = value.unsigned_abs();
-        put_line(place, at, &[(2, 0x03), (4, next as u64), (4, figure)])
+        put_line(part, &[(2, 0x03), (4, progress.next as u64), (4, figure)]);
     }
 }
 
@@ -138,8 +136,8 @@ impl ListStage for AtMultipliers {
         i32::try_from(value).is_ok()
     }
 
-    fn put(place: &mut [u8], at: usize, next: usize, value: i64) -> usize {
+    fn put(part: &mut [u8], progress: Progress, value: i64) {
         let figure = (value as i32).cast_unsigned() as u64;
-        put_line(place, at, &[(2, 0x04), (4, next as u64), (8, figure)])
+        put_line(part, &[(2, 0x04), (4, progress.next as u64), (8, figure)]);
     }
 }

@@ -1,7 +1,7 @@
-// Lines of fields, put into a place that has room for them; each call answers where the next line begins.
-ghost use Rattle.std.specs.Prelude.{◌≡◌, ◌+◌, ◌≤◌, length};
+// Lines of fields, each written over a part of a file's place that is as long as the line.
+ghost use Rattle.std.specs.Prelude.{◌≡◌, length};
 ghost use Rattle.archive.specs.File.{edition, head_text, end_text, line};
-ghost use Rattle.archive.specs.Writing.{Puts, fields_text, head_width, end_width};
+ghost use Rattle.archive.specs.Writing.{fields_text, head_width, end_width};
 
 use crate::figures::Head;
 use digits::write_field;
@@ -13,28 +13,26 @@ pub(crate) const HEAD_WIDTH: usize = 49;
 
 pub(crate) const END_WIDTH: usize = 35;
 
-// Puts fields, each of so many digits and a figure, and an end byte behind them.
-pub(crate) fn put_line(place: &mut [u8], at: usize, fields: &[(usize, u64)]) -> usize
-    requires { at + length (line (fields_text fields.now)) ≤ length place.old }
-    ensures { Puts place.old place.new at result (line (fields_text fields.now)) }
+// Writes fields, each of so many digits and a figure, and the end byte behind them.
+pub(crate) fn put_line(part: &mut [u8], fields: &[(usize, u64)])
+    requires { length part.old ≡ length (line (fields_text fields.now)) }
+    ensures { part.new ≡ line (fields_text fields.now) }
 {
-    let mut end = at;
+    let mut at = 0;
     for (width, figure) in fields {
-        write_field(&mut place[end..end + *width], *figure);
-        end += *width;
+        let end = at + *width;
+        write_field(&mut part[at..end], *figure);
+        at = end;
     }
-    place[end] = 10;
-    end + 1
+    part[at] = b'\n';
 }
 
-pub(crate) fn put_head(place: &mut [u8], at: usize, head: Head) -> usize
-    requires { at + head_width ≤ length place.old }
-    ensures puts { Puts place.old place.new at result (line (head_text edition head)) }
-    ensures stops { result ≡ at + head_width }
+pub(crate) fn put_head(part: &mut [u8], head: Head)
+    requires { length part.old ≡ head_width }
+    ensures { part.new ≡ line (head_text edition head) }
 {
     put_line(
-        place,
-        at,
+        part,
         &[
             (2, 0x01),
             (2, EDITION),
@@ -46,17 +44,12 @@ pub(crate) fn put_head(place: &mut [u8], at: usize, head: Head) -> usize
             (4, head.denominator),
             (16, head.allowance),
         ],
-    )
+    );
 }
 
-pub(crate) fn put_end(place: &mut [u8], at: usize, cost: u64, floor: i64) -> usize
-    requires { at + end_width ≤ length place.old }
-    ensures puts { Puts place.old place.new at result (line (end_text cost floor)) }
-    ensures stops { result ≡ at + end_width }
+pub(crate) fn put_end(part: &mut [u8], cost: u64, floor: i64)
+    requires { length part.old ≡ end_width }
+    ensures { part.new ≡ line (end_text cost floor) }
 {
-    put_line(
-        place,
-        at,
-        &[(2, 0xFF), (16, cost), (16, floor.cast_unsigned())],
-    )
+    put_line(part, &[(2, 0xFF), (16, cost), (16, floor.cast_unsigned())]);
 }

@@ -19,11 +19,8 @@ impl Progress {
         requires { self.next + 1 < 2 ^ 64 }
         ensures { result ≡ moved_on self at (self.next + 1) }
     {
-        Progress {
-            at,
-            next: self.next + 1,
-            ..self
-        }
+        let next = self.next + 1;
+        Progress { at, next, ..self }
     }
 
     // At the first frame of the next list.
@@ -152,12 +149,12 @@ impl<S: Drop + Stage> Unfinished<S> {
         ensures { result ≡ self.progress.at }
     {
         let progress = self.progress;
-        let _closed = self.at(Closed);
+        let _closed = self.led_to(Closed);
         progress.at
     }
 
     // The same file at another stage.
-    pub(crate) fn at<T: Stage>(self, stage: T) -> Unfinished<T>
+    pub(crate) fn led_to<T: Stage>(self, stage: T) -> Unfinished<T>
         ensures { result.progress ≡ self.progress }
     {
         let Unfinished { progress, stage: _ } = self;
@@ -165,7 +162,7 @@ impl<S: Drop + Stage> Unfinished<S> {
     }
 
     // The same file, come as far as is said.
-    pub(crate) fn come_to(self, progress: Progress) -> Unfinished<S>
+    pub(crate) fn with_progress(self, progress: Progress) -> Unfinished<S>
         ensures { result.progress ≡ progress }
     {
         let Unfinished { progress: _, stage } = self;
@@ -207,13 +204,13 @@ impl<S: Drop + Stage> Unfinished<S> {
                 cause: Cause::Frame,
             });
         }
-        Ok(self.come_to(progress.past_list()))
+        Ok(self.with_progress(progress.past_list()))
     }
 
     pub(crate) fn ended(self, bytes: usize) -> Ended
         ensures { result.bytes ≡ bytes }
     {
-        let _closed = self.at(Closed);
+        let _closed = self.led_to(Closed);
         Ended { bytes }
     }
 }

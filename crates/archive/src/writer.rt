@@ -22,13 +22,16 @@ impl Unfinished<Opened> {
         ensures { HeadStep head multipliers self place.old place.new result }
     {
         let file = self.checked(true, head.fits(), HEAD_WIDTH, place.len())?;
+        let at = file.progress.at;
+        let end = at + HEAD_WIDTH;
+        put_head(&mut place[at..end], head);
         let progress = Progress {
-            at: put_head(place, file.progress.at, head),
+            at: end,
             readings: head.readings as usize,
             multipliers,
             next: 0,
         };
-        Ok(file.come_to(progress).at(AtReadings))
+        Ok(file.with_progress(progress).led_to(AtReadings))
     }
 }
 
@@ -45,8 +48,9 @@ impl<S: ListStage> Unfinished<S> {
         let counted = progress.next < S::count(progress);
         let fitting = u16::try_from(progress.next).is_ok() && S::fits(figure);
         let file = self.checked(counted, fitting, S::WIDTH, place.len())?;
-        let end = S::put(place, progress.at, progress.next, figure);
-        Ok(file.come_to(progress.past_frame(end)))
+        let end = progress.at + S::WIDTH;
+        S::put(&mut place[progress.at..end], progress, figure);
+        Ok(file.with_progress(progress.past_frame(end)))
     }
 
     // Writes all frames of a list, when none of them will be refused.
@@ -77,7 +81,7 @@ impl Unfinished<AtReadings> {
     pub fn begin_entries(self) -> Result<Unfinished<AtEntries>, Refused<Unfinished<AtReadings>>>
         ensures { ListStep self result }
     {
-        Ok(self.past_readings()?.at(AtEntries))
+        Ok(self.past_readings()?.led_to(AtEntries))
     }
 }
 
@@ -98,7 +102,7 @@ impl Unfinished<AtEntries> {
     ) -> Result<Unfinished<AtMultipliers>, Refused<Unfinished<AtEntries>>>
         ensures { ListStep self result }
     {
-        Ok(self.past_readings()?.at(AtMultipliers))
+        Ok(self.past_readings()?.led_to(AtMultipliers))
     }
 }
 
@@ -124,7 +128,9 @@ impl Unfinished<AtMultipliers> {
     {
         let counted = self.progress.next == self.progress.multipliers;
         let file = self.checked(counted, true, END_WIDTH, place.len())?;
-        let bytes = put_end(place, file.progress.at, cost, floor);
-        Ok(file.ended(bytes))
+        let at = file.progress.at;
+        let end = at + END_WIDTH;
+        put_end(&mut place[at..end], cost, floor);
+        Ok(file.ended(end))
     }
 }

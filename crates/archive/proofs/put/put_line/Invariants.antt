@@ -3,4 +3,4 @@ use Rattle.archive.specs.Writing.{Puts, fields_text}
 use Rattle.archive.proofs.put.put_line.Given as goal
 
 abbrev pub invariant-loop-width : goal.invariant-loop-width
-invariant-loop-width l = Puts l.initial.place l.place l.at l.end (fields_text (take l.width-index l.fields))
+invariant-loop-width l = Puts l.initial.part l.part 0 l.at (fields_text (take l.width-index l.fields))
