@@ -25,12 +25,12 @@ use Rattle.reader.specs.declared.stage.Stage.TheVariants.{Head, Reading, Entry, 
 use Rattle.reader.specs.declared.fault.Layer.TheVariants as layer
 use Rattle.reader.specs.Faults.{fault}
 use Rattle.reader.specs.Lines.{Good, pieces}
-use Rattle.reader.specs.Turns.{Known, Next}
+use Rattle.reader.specs.Turns.{Next}
 use Rattle.reader.specs.Frames.{stage_at, size, InTurn, HeadIs, Agrees, reach_of, Disorder, headless, unlike, many, short, misplaced}
 use Rattle.reader.specs.Order.{FirstDisorder}
 use Rattle.reader.specs.Readable.{figures_of, InForm}
 use Rattle.reader.specs.Steps.{no_reading, text_of, fits_of, Running, Steady, SteadyAt, HeadTaken, HeadOff, HeadRefused, LineTaken, Stepped, SteppedAt}
-use Rattle.reader.proofs.Cuts.{Upto, known_rest, upto_line, upto_more, upto_past, upto_count}
+use Rattle.reader.proofs.Cuts.{Upto, upto_line, upto_more, upto_past, upto_count}
 use Rattle.reader.proofs.Heads.{head_one}
 use Rattle.reader.proofs.Texts.{stage_reading, stage_entry, stage_multiplier, stage_some, stage_behind, index, index_at, texts_count, body_at, head_in_turn, text_in_turn, file_from}
 
@@ -339,7 +339,6 @@ pub record Turned (bs : List ℕ) (a b : Lines) (l : List ℕ) : Type 0 where
   pub good : Good l
   pub upto : Upto bs b.rest.now b.taken
   pub less : length b.rest.now < length a.rest.now
-  pub known : Known a.rest.now → Known b.rest.now
 
 pub turned : (bs : List ℕ) (a b : Lines) (o : Option (Bor (List ℕ))) (l : Bor (List ℕ)) → Upto bs a.rest.now a.taken → Next a b (Ok o) → o ≡ Some l → Turned bs a b l.now
 turned bs a b o l u n e =
@@ -350,7 +349,6 @@ turned bs a b o l u n e =
       good = m.2;
       upto = subst (Upto bs b.rest.now) (sym m.1) (upto_more bs a.rest.now l.now b.rest.now a.taken u m.0 m.2);
       less = omega (arith, simp length-append at (ap length m.0));
-      known = known_rest a.rest.now l.now b.rest.now m.0;
     }
 
 -- of all stages, only the last waits for no digits

@@ -16,13 +16,9 @@ fn read_frames(file: &[u8], wanted: Option<Wanted>) -> Result<Contents, Fault>
     requires { Whole file.now }
     ensures { FramesRead wanted file.now result }
 {
-    let mut lines = Lines {
-        rest: file,
-        taken: 0,
-    };
+    let mut lines = Lines::of_good(file);
     let mut machine = Machine::new();
-    // in good lines all bytes are known
-    while let Some(line) = lines.next_line(true)? {
+    while let Some(line) = lines.next_line()? {
         let frame = read_frame(line, lines.taken)?;
         machine.step(wanted, frame, lines.taken)?;
     }

@@ -1,18 +1,18 @@
-use Rattle.std.proofs.Common.{Ok, Err, sym, ap, ◌∙◌, subst, arith, rules}
+use Rattle.std.proofs.Common.{Ok, Err, sym, ap, ◌∙◌, subst, rules}
 use Rattle.std.proofs.lemmas.Result.{err_from_is_err_and}
 use Rattle.kinds.specs.declared.refusal.Cause.TheVariants.{Frame}
 use Rattle.reader.specs.declared.fault.Layer.TheVariants as layer
 use Rattle.reader.specs.Faults.{fault}
-use Rattle.reader.specs.Frames.{InTurn, size}
+use Rattle.reader.specs.Frames.{InTurn}
 use Rattle.reader.specs.Lines.{pieces}
 use Rattle.reader.specs.Shapes.{frame_text}
 use Rattle.reader.specs.Steps.{Stepped}
-use Rattle.reader.proofs.Cuts.{whole_known, upto_broken, upto_none}
+use Rattle.reader.proofs.Cuts.{upto_broken, upto_none}
 use Rattle.reader.proofs.Order.{Reached, turned, odd, refused, taken, missing, finished, long_fits}
 use Rattle.reader.proofs.read.read_frames.Goals as goal
 
 pub loop-line-init : goal.loop-line-init
-loop-line-init c = (upto_none c.args.file.now, search rules, whole_known c.args.file.now c.requires)
+loop-line-init c = (rw (c.of_good-lines.ensures.rest, c.of_good-lines.ensures.taken) (upto_none c.args.file.now), search rules)
 
 pub returns-in_err-line : goal.returns-in_err-line
 returns-in_err-line c =
@@ -42,7 +42,6 @@ loop-line-preserved c =
       subst (λ n. Reached c.args.wanted ls n c.step.new.self) (sym t.counts)
           (taken c.args.wanted ls c.loop-line.lines.taken c.loop-line.machine c.step.new.self (frame_text c.in_ok-frame.frame) (t.here ∙ f) c.loop-line.invariant.1
           (subst (λ n. Stepped c.args.wanted (frame_text c.in_ok-frame.frame) n c.loop-line.machine c.step.new.self (Ok tt)) t.counts c.in_ok-step.ensures)),
-      t.known c.loop-line.invariant.2,
     )
 
 pub returns-in_err-step : goal.returns-in_err-step
