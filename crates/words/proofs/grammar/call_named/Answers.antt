@@ -3,5 +3,11 @@ use Rattle.words.specs.Grammar.{call_of}
 use Rattle.words.proofs.Spelling.{at_spelling}
 use Rattle.words.proofs.grammar.call_named.Goals as goal
 
+pub returns-in-kinds : goal.returns-in-kinds
+returns-in-kinds c = at_spelling call_of c.args.word.now (codes "kinds") (omega arith) (search rules) _ refl
+
+pub returns-in-table : goal.returns-in-table
+returns-in-table c = at_spelling call_of c.args.word.now (codes "table") (omega arith) (search rules) _ refl
+
 pub returns-in-multipliers : goal.returns-in-multipliers
 returns-in-multipliers c = at_spelling call_of c.args.word.now (codes "multipliers") (omega arith) (search rules) _ refl
