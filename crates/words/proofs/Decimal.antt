@@ -1,10 +1,9 @@
 -- The number that digits write, summed up from the left.
-use Rattle.std.proofs.Common.{◌≡◌, ℕ, zero, suc, ◌+◌, ◌-◌, ◌*◌, ◌^◌, ◌<◌, ◌≤◌, Bool, true, false, cond, ◌&&◌, leb, List, [], ◌∷◌, length, get_or, take, drop, eqb, ℤ, pos, negsuc, neg_ℤ, FitsSigned, w64, Some, None, Option, sym, refl, ◌∙◌, add_assoc, mul_assoc, add-mul, le-mul_of_pos_right, arith}
+use Rattle.std.proofs.Common.{◌≡◌, ℕ, zero, suc, ◌+◌, ◌-◌, ◌*◌, ◌^◌, ◌<◌, ◌≤◌, Bool, true, false, cond, ◌&&◌, leb, List, [], ◌∷◌, length, get_or, drop, ℤ, pos, negsuc, neg_ℤ, FitsSigned, w64, Some, None, Option, sym, refl, ◌∙◌, add_assoc, mul_assoc, add-mul, le-mul_of_pos_right, arith}
 use native.Mathlib.Nat.{pow-succ', one-le-pow}
 use Rattle.std.proofs.lemmas.List.{drop_more, drop_all}
 use Rattle.std.proofs.lemmas.Bool.{and_right, lt-leb, le-leb}
 use Rattle.std.proofs.lemmas.Bool.Decides.{nat_tests}
-use Rattle.std.specs.Cmp.Lexicographic.{pointwise}
 use Rattle.std.specs.Option.{SomeIff}
 use Rattle.words.specs.Words.{begins}
 use Rattle.words.specs.Figures.{is_digit, all_digits, is_numeral, value, figure_if, figure_of, size_of}
@@ -68,11 +67,6 @@ missed_minus : (s : Bool) (v : ℕ) → None ≡ cond (s && leb v (2 ^ 64 - 1)) 
 missed_minus false v e = refl
 missed_minus true zero e = absurd cc
 missed_minus true (suc v) e = grind (arith, nat_tests)
-
--- the strip of a minus tells whether a word begins with it
-pub strip_begins : (w : List ℕ) → pointwise eqb (take 1 w) (45 ∷ []) ≡ begins 45 w
-strip_begins [] = refl
-strip_begins (b ∷ bs) = grind (arith, nat_tests)
 
 module _ (w : List ℕ) where
   module _ (b : true ≡ begins 45 w) where

@@ -1,17 +1,11 @@
 -- What a line says, by its first word and the words behind it.
-use Rattle.std.proofs.Common.{◌≡◌, ℕ, true, false, List, [], ◌∷◌, ℤ, Option, None, Some, take, eqb, sym, refl, ap, ◌∙◌, arith}
-use Rattle.std.proofs.lemmas.Bool.Decides.{nat_tests}
-use Rattle.std.specs.Cmp.Lexicographic.{pointwise}
+use Rattle.std.proofs.Common.{◌≡◌, ℕ, true, false, List, [], ◌∷◌, ℤ, Option, None, Some, sym, refl, ap, ◌∙◌}
 use Rattle.std.specs.Option.{unwrap_or}
 use Rattle.words.specs.declared.grammar.Line.{Line}
 use Rattle.words.specs.declared.grammar.Line.TheVariants.{Blank, Unknown}
 use Rattle.words.specs.Words.{words_of, begins}
 use Rattle.words.specs.Arguments.{place_after}
 use Rattle.words.specs.Grammar.{or_unknown, call_line, call_listed, line_of, listed_of}
-
-pub starts_begins : (c : ℕ) (w : List ℕ) → pointwise eqb (c ∷ []) (take 1 w) ≡ begins c w
-starts_begins c [] = refl
-starts_begins c (b ∷ bs) = grind (arith, nat_tests)
 
 or_unknown_is : (r : Option Line) → unwrap_or r Unknown ≡ or_unknown r
 or_unknown_is None = refl

@@ -28,7 +28,7 @@ pub enum Line {
         weight: i64,
     },
     // `count` figures
-    // Kept so: there is no heap, so they stand in a place that the caller lends, and there can be more than it has room for.
+    // Kept so: without a heap they stand in a place that the caller lends, and there can be more than it holds.
     Table {
         count: usize,
     },
@@ -135,7 +135,7 @@ fn read_multipliers(mut words: Words, figures: &mut [i64]) -> Option<Line>
     Some(Line::Multipliers { denominator, count })
 }
 
-// Kept so: two of the five readers write figures, so the place is a parameter of these and no field beside the words.
+// Kept so: two of the five readers write figures, so the place is a parameter of theirs and no field with the words.
 // The line that a call's name and the words behind it give, if they give one.
 fn read_call(name: &[u8], words: Words, figures: &mut [i64]) -> Option<Line>
     ensures line { result ≡ call_line name.now (words_left words.entry) }

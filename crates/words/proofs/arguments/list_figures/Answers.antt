@@ -1,4 +1,4 @@
-use Rattle.std.proofs.Common.{inl, refl, sym, ap, ◌∙◌, arith, Some}
+use Rattle.std.proofs.Common.{inl, refl, ap, ◌∙◌, arith, Some}
 use Rattle.std.proofs.lemmas.Iterator.Consumers.{YieldsList-from_first, count_from_yields_List}
 use Rattle.words.specs.Cursor.{words_left}
 use Rattle.words.proofs.Cutting.{words_few}

@@ -1,8 +1,13 @@
-use Rattle.std.proofs.Common.{◌≡◌, codes, refl, arith, rules}
-use Rattle.std.proofs.lemmas.Slice.Eq.{text_from_reads}
+use Rattle.std.proofs.Common.{codes, refl, arith, rules}
+use Rattle.words.specs.Grammar.{call_of}
+use Rattle.words.proofs.Spelling.{at_spelling}
 use Rattle.words.proofs.grammar.call_named.Goals as goal
 
+pub returns-in-kinds : goal.returns-in-kinds
+returns-in-kinds c = at_spelling call_of c.args.word.now (codes "kinds") (omega arith) (search rules) _ refl
+
+pub returns-in-table : goal.returns-in-table
+returns-in-table c = at_spelling call_of c.args.word.now (codes "table") (omega arith) (search rules) _ refl
+
 pub returns-in-multipliers : goal.returns-in-multipliers
-returns-in-multipliers c =
-    let e : c.args.word.now ≡ codes "multipliers" = text_from_reads _ (codes "multipliers") (omega arith) (search rules) in
-    rw e refl
+returns-in-multipliers c = at_spelling call_of c.args.word.now (codes "multipliers") (omega arith) (search rules) _ refl

@@ -1,6 +1,7 @@
 use Rattle.std.proofs.Common.{sym, ap, ◌∙◌}
 use Rattle.words.specs.Words.{words_of}
-use Rattle.words.proofs.Saying.{no_words, starts_begins, comment, said_line, said_place}
+use Rattle.words.proofs.Spelling.{starts_begins}
+use Rattle.words.proofs.Saying.{no_words, comment, said_line, said_place}
 use Rattle.words.proofs.grammar.read_line.Goals as goal
 
 pub returns-in_default : goal.returns-in_default
