@@ -23,6 +23,7 @@ pub enum KnownPenalty {
 }
 
 // What the kind at hand answers: `$kind` is that kind in `$answer`.
+// Kept so: a method that asks by a closure takes `FnOnce(&dyn Penalty)`, a bound that the check cannot state.
 macro_rules! for_each_known {
     ($known:expr, $kind:ident => $answer:expr) => {
         match $known {
