@@ -21,18 +21,31 @@ use Rattle.reader.specs.declared.frames.HeadFields.{HeadFields}
 use Rattle.reader.specs.Shapes.{frame_text}
 use Rattle.reader.specs.Steps.{no_reading, text_of, fits_of, Put, LineTaken}
 
+reading_at : (n m j k : ℕ) → Reading k ≡ stage_at n m j → (j ≡ k) × (k < n)
+reading_at n m j k e = (grind arith, grind arith)
+
+entry_at : (n m j k : ℕ) → Entry k ≡ stage_at n m j → (j ≡ n + k) × (k < n)
+entry_at n m j k e = (grind arith, grind arith)
+
+multiplier_at : (n m j k : ℕ) → Multiplier k ≡ stage_at n m j → (j ≡ n + n + k) × (k < m)
+multiplier_at n m j k e = (grind arith, grind arith)
+
+end_at : (n m j : ℕ) → End ≡ stage_at n m j → j ≡ n + n + m
+end_at n m j e = grind arith
+
 -- what a stage says of the lines that were taken
-pub at_reading : (n m j k : ℕ) → Reading k ≡ stage_at n m j → (j ≡ k) × (k < n)
-at_reading n m j k e = (grind arith, grind arith)
+module _ (m : Machine) where
+  pub at_reading : (k : ℕ) → m.stage ≡ Reading k → (m.taken ≡ k) × (k < m.contents.head.readings)
+  at_reading k s = reading_at _ _ _ k (sym s ∙ m.waits (λ h. let e : Reading k ≡ Head = sym s ∙ h in cc))
 
-pub at_entry : (n m j k : ℕ) → Entry k ≡ stage_at n m j → (j ≡ n + k) × (k < n)
-at_entry n m j k e = (grind arith, grind arith)
+  pub at_entry : (k : ℕ) → m.stage ≡ Entry k → (m.taken ≡ m.contents.head.readings + k) × (k < m.contents.head.readings)
+  at_entry k s = entry_at _ _ _ k (sym s ∙ m.waits (λ h. let e : Entry k ≡ Head = sym s ∙ h in cc))
 
-pub at_multiplier : (n m j k : ℕ) → Multiplier k ≡ stage_at n m j → (j ≡ n + n + k) × (k < m)
-at_multiplier n m j k e = (grind arith, grind arith)
+  pub at_multiplier : (k : ℕ) → m.stage ≡ Multiplier k → (m.taken ≡ m.contents.head.readings + m.contents.head.readings + k) × (k < m.contents.count)
+  at_multiplier k s = multiplier_at _ _ _ k (sym s ∙ m.waits (λ h. let e : Multiplier k ≡ Head = sym s ∙ h in cc))
 
-pub at_end : (n m j : ℕ) → End ≡ stage_at n m j → j ≡ n + n + m
-at_end n m j e = grind arith
+  pub at_end : m.stage ≡ End → m.taken ≡ m.contents.head.readings + m.contents.head.readings + m.contents.count
+  at_end s = end_at _ _ _ (sym s ∙ m.waits (λ h. let e : End ≡ Head = sym s ∙ h in cc))
 
 number_field : (w x : ℕ) → w ≤ 16 → Fits w x → Number (field w x) x
 number_field w x short fits =

@@ -27,9 +27,10 @@ use Rattle.reader.specs.Faults.{fault}
 use Rattle.reader.specs.Lines.{Good, pieces}
 use Rattle.reader.specs.Turns.{Next}
 use Rattle.reader.specs.Frames.{stage_at, size, InTurn, HeadIs, Agrees, reach_of, Disorder, headless, unlike, many, short, misplaced}
+use Rattle.reader.specs.Heads.{HeadOff, HeadRefused}
 use Rattle.reader.specs.Order.{FirstDisorder}
 use Rattle.reader.specs.Readable.{figures_of, InForm}
-use Rattle.reader.specs.Steps.{no_reading, text_of, fits_of, Running, Steady, SteadyAt, HeadTaken, HeadOff, HeadRefused, LineTaken, Stepped, SteppedAt}
+use Rattle.reader.specs.Steps.{no_reading, text_of, fits_of, Running, HeadTaken, LineTaken, Stepped, SteppedAt}
 use Rattle.reader.proofs.Cuts.{Upto, upto_line, upto_more, upto_past, upto_count}
 use Rattle.reader.proofs.Heads.{head_one}
 use Rattle.reader.proofs.Texts.{stage_reading, stage_entry, stage_multiplier, stage_some, stage_behind, index, index_at, texts_count, body_at, head_in_turn, text_in_turn, file_from}
@@ -56,17 +57,6 @@ abbrev pub Reached : Option Wanted → List (List ℕ) → ℕ → Machine → T
 Reached w ls t m = ReachedAt w ls t m m.stage
 
 module _ (w : Option Wanted) (ls : List (List ℕ)) (t : ℕ) (m : Machine) where
-  steady_at : (s : Stage) → ReachedAt w ls t m s → SteadyAt m s
-  steady_at Head a = tt
-  steady_at (Reading k) a = a.running
-  steady_at (Entry k) a = a.running
-  steady_at (Multiplier k) a = a.running
-  steady_at End a = a.running
-  steady_at Nothing a = a.running
-
-  pub steady : Reached w ls t m → Steady m
-  steady a = steady_at m.stage a
-
   past_clean : Past w ls t m → (l u : ℕ) (c : Cause) → Disorder w ls l u c → l < t + 1 → ⊥
   past_clean a l u c (headless none) lt = none (head_in_turn (get_or ls 0 []) edition m.contents.head a.head)
   past_clean a l u c (unlike {e} {h} i no-like) lt =

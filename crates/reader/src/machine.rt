@@ -1,13 +1,12 @@
 // The machine of the frame layer: the stage that is reached and the frame that comes decide whether it is in order.
-ghost use Rattle.std.specs.Prelude.{◌≡◌, ◌+◌, ◌≤◌, ◌∷◌, ◌++◌, MatchResult};
+ghost use Rattle.std.specs.Prelude.{◌≡◌, ◌≢◌, ◌+◌, ◌∷◌, ◌++◌, MatchResult};
 ghost use Rattle.digits.specs.Fields.{Number};
 ghost use Rattle.reader.specs.Faults.{fault};
 ghost use Rattle.reader.specs.Frames.{stage_at};
+ghost use Rattle.reader.specs.Heads.{HeadRead, HeadChecked};
 ghost use Rattle.reader.specs.Shapes.{frame_text};
-ghost use Rattle.reader.specs.Steps.{Running, Steady, HeadChecked, HeadStepped, LineStepped, Stepped};
-ghost use Rattle.reader.specs.Heads.{HeadRead};
 ghost use Rattle.reader.specs.declared.frames.Frame.TheVariants.{Head as HeadFrame};
-ghost use Rattle.reader.specs.declared.stage.Stage.TheVariants.{Head as AtHead, Reading as AtReading, Entry as AtEntry, Multiplier as AtMultiplier, End as AtEnd};
+ghost use Rattle.reader.specs.declared.stage.Stage.TheVariants.{Head as AtHead, Reading as AtReading, Entry as AtEntry, Multiplier as AtMultiplier, End as AtEnd, Nothing as AtNothing};
 
 use crate::contents::{Contents, Wanted};
 use crate::fault::{Fault, Layer};
@@ -42,9 +41,9 @@ fn check_head(wanted: Option<Wanted>, edition: u64, head: Head, at: usize) -> Re
         return Err(Fault::new(Layer::Frames, Cause::Mark, at));
     };
     if edition != 1
-        || head.roughness != wanted.roughness as u64
-        || head.misfit != wanted.misfit as u64
-        || head.bend != wanted.bend as u64
+        || head.roughness != u64::from(wanted.roughness)
+        || head.misfit != u64::from(wanted.misfit)
+        || head.bend != u64::from(wanted.bend)
     {
         return Err(Fault::new(Layer::Frames, Cause::Mark, at));
     }
@@ -68,15 +67,19 @@ fn check_place(place: Digits<'_, 4>, k: usize, at: usize) -> Result<(), Fault>
     Ok(())
 }
 
+// Behind the head, what it waits for is what the head's counts and the lines taken since give.
 #[derive(Clone, Copy)]
 pub(crate) struct Machine {
     pub stage: Stage,
     // how many lines behind the head were taken
     pub taken: usize,
     pub contents: Contents,
+    ghost waits: { stage ≢ AtHead → stage ≡ stage_at contents.head.readings contents.count taken },
 }
 
 impl Machine {
+    ghost use Rattle.reader.specs.Steps.{HeadStepped, LineStepped, Stepped};
+
     // A machine that waits for the head.
     pub(crate) fn new() -> Machine
         ensures { result.stage ≡ AtHead }
@@ -88,16 +91,16 @@ impl Machine {
         }
     }
 
-    // One line more is taken.
+    // One line more is taken, behind the head.
     fn advance(&mut self)
-        requires { self.old.taken ≤ 1000 }
+        requires head { self.old.stage ≢ AtHead }
+        requires more { self.old.stage ≢ AtNothing }
         ensures taken { self.new.taken ≡ self.old.taken + 1 }
         ensures stage { self.new.stage ≡ stage_at self.old.contents.head.readings self.old.contents.count (self.old.taken + 1) }
         ensures contents { self.new.contents ≡ self.old.contents }
     {
         self.taken += 1;
-        let readings = self.contents.head.readings as usize;
-        self.stage = awaited(readings, self.contents.count, self.taken);
+        self.stage = awaited(&self.contents, self.taken);
     }
 
     fn keep_reading(
@@ -109,8 +112,7 @@ impl Machine {
         weight: Digits<'_, 4>,
         at: usize,
     ) -> Result<(), Fault>
-        requires stage { self.old.stage ≡ AtReading k }
-        requires running { Running self.old }
+        requires { self.old.stage ≡ AtReading k }
         ensures { LineStepped (48 ∷ 50 ∷ (place.entry.bytes.now ++ (minute.entry.bytes.now ++ (crude.entry.bytes.now ++ weight.entry.bytes.now)))) at self.old self.new result }
     {
         check_place(place, k, at)?;
@@ -130,8 +132,7 @@ impl Machine {
         value: Digits<'_, 4>,
         at: usize,
     ) -> Result<(), Fault>
-        requires stage { self.old.stage ≡ AtEntry k }
-        requires running { Running self.old }
+        requires { self.old.stage ≡ AtEntry k }
         ensures { LineStepped (48 ∷ 51 ∷ (place.entry.bytes.now ++ value.entry.bytes.now)) at self.old self.new result }
     {
         check_place(place, k, at)?;
@@ -147,8 +148,7 @@ impl Machine {
         value: Digits<'_, 8>,
         at: usize,
     ) -> Result<(), Fault>
-        requires stage { self.old.stage ≡ AtMultiplier k }
-        requires running { Running self.old }
+        requires { self.old.stage ≡ AtMultiplier k }
         ensures { LineStepped (48 ∷ 52 ∷ (place.entry.bytes.now ++ value.entry.bytes.now)) at self.old self.new result }
     {
         check_place(place, k, at)?;
@@ -163,8 +163,7 @@ impl Machine {
         floor: Digits<'_, 16>,
         at: usize,
     ) -> Result<(), Fault>
-        requires stage { self.old.stage ≡ AtEnd }
-        requires running { Running self.old }
+        requires { self.old.stage ≡ AtEnd }
         ensures { LineStepped (70 ∷ 70 ∷ (cost.entry.bytes.now ++ floor.entry.bytes.now)) at self.old self.new result }
     {
         self.contents.cost = cost.figure();
@@ -187,7 +186,7 @@ impl Machine {
         self.contents.head = head;
         self.contents.count = count;
         self.taken = 0;
-        self.stage = awaited(head.readings as usize, count, 0);
+        self.stage = awaited(&self.contents, 0);
         Ok(())
     }
 
@@ -198,7 +197,6 @@ impl Machine {
         frame: Frame<'_>,
         at: usize,
     ) -> Result<(), Fault>
-        requires { Steady self.old }
         ensures { Stepped wanted (frame_text frame.entry) at self.old self.new result }
     {
         match (self.stage, frame) {

@@ -1,4 +1,4 @@
-use Rattle.std.proofs.Common.{◌∷◌, ◌++◌, set, nat_abs, sym, ap, ◌∙◌, subst, arith, w64, SFits, rules}
+use Rattle.std.proofs.Common.{◌∷◌, ◌++◌, set, nat_abs, ap, ◌∙◌, subst, arith, w64, SFits, rules}
 use Rattle.std.proofs.lemmas.Result.{err_from_is_err_and}
 use Rattle.archive.specs.File.{reading_text}
 use Rattle.kinds.specs.declared.reading.Reading.{Reading as NotedReading}
@@ -11,13 +11,13 @@ pub returns-in_err-check_place : goal.returns-in_err-check_place
 returns-in_err-check_place c =
     let m = c.args.self.now in
     let rest = c.args.minute.bytes.now ++ (c.args.crude.bytes.now ++ c.args.weight.bytes.now) in
-    let at = at_reading m.contents.head.readings m.contents.count m.taken c.args.k (sym c.requires.stage ∙ c.requires.running.waits) in
+    let at = at_reading m c.args.k c.requires in
     let p = err_from_is_err_and c.from_residual.result c.from_residual.ensures.1 in
     let h = c.in_err-check_place.ensures in
     rw (p.1, p.2) (
       h.0,
       λ o. other_place 48 50 c.args.k c.args.place.bytes.now rest c.args.place.sized (omega (arith, at.1, m.contents.few)) h.1
-          (subst (λ s. InTurn s (48 ∷ 50 ∷ (c.args.place.bytes.now ++ rest))) c.requires.stage o).leads,
+          (subst (λ s. InTurn s (48 ∷ 50 ∷ (c.args.place.bytes.now ++ rest))) c.requires o).leads,
     )
 
 pub returns : goal.returns
@@ -26,7 +26,7 @@ returns c =
     let m = c.args.self.now in
     let m' = c.advance.new.self in
     let e = c.advance.ensures.contents in
-    let at = at_reading m.contents.head.readings m.contents.count m.taken c.args.k (sym c.requires.stage ∙ c.requires.running.waits) in
+    let at = at_reading m c.args.k c.requires in
     let fits1 : SFits w64 c.unsigned.result = search rules in
     let fits2 : SFits w64 c.unsigned-2.result = search rules in
     let fits3 : SFits w64 c.unsigned-3.result = search rules in
@@ -39,7 +39,7 @@ returns c =
     let ok2 = fits_read 4 c.args.crude.bytes.now c.unsigned-2.result c.args.crude.sized c.unsigned-2.ensures.value c.unsigned-2.ensures.sign in
     let ok3 = fits_read 4 c.args.weight.bytes.now c.unsigned-3.result c.args.weight.sized c.unsigned-3.ensures.value c.unsigned-3.ensures.sign in
     let h : SameHead m.contents m'.contents = record { head = ap (λ x. x.head) e; count = ap (λ x. x.count) e } in
-    kept _ m m' (Reading c.args.k) c.requires.stage h
+    kept _ m m' (Reading c.args.k) c.requires h
     (put_reading m.contents m'.contents h c.args.k _ r (ap (λ x. x.readings) e ∙ ap (set m.contents.readings c.args.k) (stored c.unsigned.result c.unsigned-2.result c.unsigned-3.result fits1 fits2 fits3))
     (ap (λ x. x.entries) e) (ap (λ x. x.multipliers) e) (ap (λ x. x.cost) e, ap (λ x. x.floor) e)
     at.1 (omega (arith, at.1, m.contents.few, m.contents.places.0)) (rw (one, two, three, four)) (rw (ok1, ok2, ok3)))
