@@ -14,9 +14,9 @@ apart s t e f g =
 pub invariant_of-result : goal.invariant_of-result
 invariant_of-result c =
     let ts = c.args.minutes.now in
-    let before = apart (get_or ts 0 (pos 0)) (get_or ts 1 (pos 0)) c.requires.0 (search rules) (search rules) in
-    let after = apart (get_or ts 1 (pos 0)) (get_or ts 2 (pos 0)) c.requires.1 (search rules) (search rules) in
-    record { short = (before.1, after.1) }
+    let one = (apart (get_or ts 0 (pos 0)) (get_or ts 1 (pos 0)) c.requires.0 (search rules) (search rules)).1 in
+    let other = (apart (get_or ts 1 (pos 0)) (get_or ts 2 (pos 0)) c.requires.1 (search rules) (search rules)).1 in
+    record { short = (omega arith, omega arith) }
 
 pub returns : goal.returns
 returns c =
