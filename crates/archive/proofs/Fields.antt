@@ -2,16 +2,15 @@
 --     fields_next, fields_reach     one field more, and how far it reaches
 --     field_put       a field that is written anew
 --     puts_all        bytes that fill a whole place
---     head_fields, reading_fields, entry_fields, multiplier_fields, end_fields     the fields of each frame are its digits
-use Rattle.std.proofs.Common.{◌≡◌, ℕ, ◌+◌, ◌-◌, ◌<◌, ◌≤◌, List, [], ◌∷◌, ◌++◌, length, get_or, take, drop, ℤ, unsigned_abs, sym, refl, ap, ◌∙◌, arith, w32, w64, of_z, length-append, length-drop, length-take}
+--     reading_fields, entry_fields, multiplier_fields, end_fields     the fields of a frame with signed figures are its digits
+use Rattle.std.proofs.Common.{◌≡◌, ℕ, ◌+◌, ◌-◌, ◌<◌, ◌≤◌, List, [], ◌∷◌, ◌++◌, length, get_or, take, drop, ℤ, unsigned_abs, sym, ap, ◌∙◌, arith, w32, w64, of_z, length-append, length-drop, length-take}
 use borrow.Rule.Slice.PartMut.{put_mid}
 use Rattle.std.proofs.lemmas.List.{flat_map_more, take_more, take-append-drop, drop_all, append-nil}
 use Rattle.std.proofs.lemmas.List.Concat.{flat_map-append}
 use Rattle.kinds.specs.declared.reading.Reading.{Reading}
 use Rattle.digits.specs.Fields.{field}
 use Rattle.digits.proofs.Fields.{field_length}
-use Rattle.archive.specs.declared.figures.Head.{Head}
-use Rattle.archive.specs.File.{edition, head_text, reading_text, entry_text, multiplier_text, end_text, line}
+use Rattle.archive.specs.File.{reading_text, entry_text, multiplier_text, end_text, line}
 use Rattle.archive.specs.Writing.{Puts, fields_text}
 use Rattle.archive.proofs.Pasting.{puts_part, puts_same}
 
@@ -41,10 +40,6 @@ pub puts_all : (a b : List ℕ) (j : ℕ) (t : List ℕ) → length a ≡ length
 puts_all a b j t long p =
     let e : length a ≤ j = omega (arith, p.stops) in
     p.is ∙ ap (λ d. t ++ d) (drop_all j a e) ∙ append-nil t
-
-pub head_fields : (h : Head) → fields_text ((2, 1) ∷ (2, 1) ∷ (4, h.roughness) ∷ (6, h.misfit) ∷ (6, h.bend) ∷ (4, h.readings) ∷ (4, h.stiffness) ∷ (4, h.denominator) ∷ (16, h.allowance) ∷ []) ≡ head_text edition h
-unfolding head_text field
-head_fields h = refl
 
 pub reading_fields : (k m x w : ℕ) (r : Reading) → m ≡ unsigned_abs r.minute → x ≡ unsigned_abs r.crude → w ≡ unsigned_abs r.weight → fields_text ((2, 2) ∷ (4, k) ∷ (8, m) ∷ (4, x) ∷ (4, w) ∷ []) ≡ reading_text k r
 unfolding reading_text field

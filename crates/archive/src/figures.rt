@@ -25,7 +25,7 @@ pub struct Head {
 }
 
 // All figures of a file, its lists lent. Any can be handed over here too.
-#[derive(Clone, Copy)]
+#[derive(Clone, Copy, PartialEq, Eq, Debug)]
 pub struct Figures<'a> {
     pub head: Head,
     pub readings: &'a [Reading],

@@ -8,6 +8,7 @@ use crate::put::put_line;
 use crate::stages::{AtEntries, AtMultipliers, AtReadings, Progress, Stage};
 use kinds::reading::Reading;
 
+// A stage at which a list is written says what its frames are; the calls that write them are the same at each.
 pub(crate) trait ListStage: Stage + Copy {
     // what a frame of the list tells
     type Figure: Copy;

@@ -66,6 +66,7 @@ impl<S: ListStage> Unfinished<S> {
     }
 }
 
+// Kept so: a method for each list, over the one above, so that a frame of another list does not compile.
 impl Unfinished<AtReadings> {
     pub fn reading(
         self,

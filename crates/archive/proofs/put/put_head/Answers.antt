@@ -1,11 +1,13 @@
-use Rattle.std.proofs.Common.{ap, ◌∙◌, length-append}
+use Rattle.std.proofs.Common.{length-append}
+use Rattle.digits.specs.Fields.{field}
 use Rattle.digits.proofs.Fields.{field_length}
-use Rattle.archive.specs.File.{line}
-use Rattle.archive.proofs.Fields.{head_fields}
+use Rattle.archive.specs.File.{head_text}
 use Rattle.archive.proofs.put.put_head.Goals as goal
 
 pub put_line-requires : goal.put_line-requires
 put_line-requires c = simp (length-append, field_length) c.requires
 
+-- the fields compute to the digits of the head
 pub returns : goal.returns
-returns c = c.put_line.ensures ∙ ap line (head_fields c.args.head)
+unfolding head_text field
+returns c = c.put_line.ensures
