@@ -37,6 +37,7 @@ fn line_end(bytes: &[u8]) -> usize
 }
 
 // Hands out one line after the other, without its end byte.
+// Kept so: no `Iterator`, since `?` on the next line, with the count beside it, is plainer than a `for` over results.
 #[derive(Clone, Copy)]
 pub(crate) struct Lines<'a> {
     // what is left of the file
