@@ -36,7 +36,20 @@ fn line_end(bytes: &[u8]) -> usize
         .unwrap_or(bytes.len())
 }
 
+// Where the first byte stands that is no digit, or how many bytes there are.
+fn digits_end(bytes: &[u8]) -> usize
+    ensures within { result ≤ length bytes.now }
+    ensures before { (k : ℕ) → k < result → is_digit (slice_index bytes.now k) ≡ true }
+    ensures stops { result < length bytes.now → is_digit (slice_index bytes.now result) ≡ false }
+{
+    bytes
+        .iter()
+        .position(|byte| !is_digit(*byte))
+        .unwrap_or(bytes.len())
+}
+
 // Hands out one line after the other, without its end byte.
+// Kept so: no `Iterator`, since `?` on the next line, with the count beside it, is plainer than a `for` over results.
 #[derive(Clone, Copy)]
 pub(crate) struct Lines<'a> {
     // what is left of the file
@@ -83,12 +96,10 @@ impl<'a> Lines<'a> {
         ensures stops { result < length self.now.rest.now → is_digit (slice_index self.now.rest.now result) ≡ false }
     {
         if self.known {
-            return line_end(self.rest);
+            line_end(self.rest)
+        } else {
+            digits_end(self.rest)
         }
-        self.rest
-            .iter()
-            .position(|byte| !is_digit(*byte))
-            .unwrap_or(self.rest.len())
     }
 
     // The next line, or none where nothing is left.
