@@ -2,7 +2,7 @@
 ghost use Rattle.std.specs.Prelude.{◌≡◌};
 ghost use Rattle.catalogue.specs.Told.{packed, Tells};
 
-use crate::marks::judge_marks;
+use crate::marks::{Marks, judge_marks};
 use reader::contents::Contents;
 use reader::fault::Fault;
 
@@ -21,8 +21,8 @@ fn pack(answer: &Result<Contents, Fault>) -> u32
 }
 
 // What `judge_marks` answers, in one number.
-pub fn judge_packed(roughness: u32, misfit: u32, bend: u32, file: &[u8]) -> u32
-    ensures { Tells roughness misfit bend file.now result }
+pub fn judge_packed(marks: Marks, file: &[u8]) -> u32
+    ensures { Tells marks file.now result }
 {
-    pack(&judge_marks(roughness as u64, misfit as u64, bend as u64, file))
+    pack(&judge_marks(marks, file))
 }
