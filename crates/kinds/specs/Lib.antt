@@ -4,3 +4,4 @@ pub mod Figures
 pub mod Minutes
 pub mod Roughness
 pub mod Penalty
+pub mod Adding

@@ -2,6 +2,7 @@
 // of roughness makes before it answers.
 #![tactic(auto)]
 
+pub mod bounded;
 pub mod minutes;
 pub mod penalty;
 pub mod reading;

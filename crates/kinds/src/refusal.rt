@@ -1,8 +1,9 @@
 // Refusals: why a call says no, and at which place.
 ghost use Rattle.std.specs.Prelude.{◌≡◌};
 ghost use Rattle.kinds.specs.Refusals.{number_of};
+ghost use Rattle.kinds.specs.Checks.{at};
 
-// Why a call is turned down. Text says a cause by its `number`.
+// Why a call is turned down. Text says a cause by its number, `u8::from`.
 #[derive(Clone, Copy, PartialEq, Eq, Debug)]
 pub enum Cause {
     // a crude value or a weight is out of range
@@ -50,11 +51,11 @@ pub struct Refusal {
     pub place: usize,
 }
 
-impl Cause {
-    pub fn number(self) -> u8
-        ensures { result ≡ number_of self }
-    {
-        match self {
+impl From<Cause> for u8 {
+    ghost from_gives = { λ cause number. number ≡ number_of cause };
+
+    fn from(cause: Cause) -> u8 {
+        match cause {
             Cause::Figure => 1,
             Cause::Minute => 2,
             Cause::Place => 3,
@@ -74,5 +75,14 @@ impl Cause {
             Cause::Mark => 19,
             Cause::Stated => 20,
         }
+    }
+}
+
+// A cause that names no place.
+impl From<Cause> for Refusal {
+    ghost from_gives = { λ cause refusal. refusal ≡ at cause 0 };
+
+    fn from(cause: Cause) -> Refusal {
+        Refusal { cause, place: 0 }
     }
 }

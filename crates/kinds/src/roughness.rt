@@ -89,34 +89,19 @@ fn check_map(
     ensures { result ≡ answer (told_no growth reach minutes.now input.now wanted needed room) tt }
 {
     if growth > 2000 {
-        return Err(Refusal {
-            cause: Cause::Steep,
-            place: 0,
-        });
+        return Err(Cause::Steep.into());
     }
     if minutes.len() <= reach {
-        return Err(Refusal {
-            cause: Cause::Short,
-            place: 0,
-        });
+        return Err(Cause::Short.into());
     }
     if minutes.len() > 240 || input.len() != wanted || room < needed {
-        return Err(Refusal {
-            cause: Cause::Length,
-            place: 0,
-        });
+        return Err(Cause::Length.into());
     }
     if !lawful_minutes(minutes) {
-        return Err(Refusal {
-            cause: Cause::Minute,
-            place: 0,
-        });
+        return Err(Cause::Minute.into());
     }
     if growth as u128 * largest_size(input) as u128 > 1_000_000_000_000 {
-        return Err(Refusal {
-            cause: Cause::Value,
-            place: 0,
-        });
+        return Err(Cause::Value.into());
     }
     Ok(())
 }

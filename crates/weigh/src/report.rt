@@ -22,7 +22,7 @@ pub(crate) fn answer(
             println!(rt; " floor {floor}")
         }
         Answer::Refused(refusal) => {
-            let cause = refusal.cause.number();
+            let cause = u8::from(refusal.cause);
             let at = refusal.place;
             println!(rt; "no {cause} {at}")
         }
