@@ -94,7 +94,7 @@ fn refused_line(fault: &Fault) -> AnswerLine
     AnswerLine::new()
         .with(b"EE")
         .with_field::<2>(u8::from(fault.layer) as u64)
-        .with_field::<2>(fault.cause.number() as u64)
+        .with_field::<2>(u8::from(fault.cause) as u64)
         .with_field::<4>(fault.line as u64)
         .with(b"\n")
 }

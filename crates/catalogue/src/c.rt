@@ -14,7 +14,7 @@ fn pack(answer: &Result<Contents, Fault>) -> u32
         Ok(_) => 0,
         Err(fault) => {
             let layer = u8::from(fault.layer) as u32;
-            let number = fault.cause.number() as u32;
+            let number = u8::from(fault.cause) as u32;
             layer * 0x100_0000 + number * 0x1_0000 + fault.line as u32
         }
     }

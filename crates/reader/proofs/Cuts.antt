@@ -2,17 +2,17 @@
 --     NoEnd           bytes without an end byte
 --     Upto            t lines of bytes were good, and the rest is left
 --     whole_known     where no line is broken, all bytes are digits or end bytes
-use Rattle.std.proofs.Common.{◌≡◌, ℕ, zero, suc, ◌+◌, ◌-◌, ◌<◌, ◌≤◌, true, false, cond, eqb, List, [], ◌∷◌, ◌++◌, length, get_or, take, drop, sym, refl, ap, ◌∙◌, subst, inl, inr, ⊎_elim, add-zero, arith, length-append, length-drop, below_more}
+use Rattle.std.proofs.Common.{◌≡◌, ℕ, zero, suc, ◌+◌, ◌-◌, ◌<◌, ◌≤◌, Bool, true, false, ◌&&◌, cond, eqb, List, [], ◌∷◌, ◌++◌, length, get_or, take, drop, sym, refl, ap, ◌∙◌, subst, inl, inr, ⊎_elim, add-zero, arith, length-append, length-drop, below_more, fold}
 use Rattle.std.proofs.ByRecursion.{All-get_or, All-from_get_or}
-use Rattle.std.proofs.lemmas.List.{take-append-drop, drop_more, get_or-take, take_rest, drop-drop, get_or-drop, get_or-append-add, get_or_past, length-take-le}
-use Rattle.std.proofs.lemmas.Bool.{ne_eqb, cases_lt, cases_Bool, or_cases, or_left, or_right, both_ways}
+use Rattle.std.proofs.lemmas.List.{take-append-drop, drop_more, get_or-take, take_rest, drop-drop, get_or-drop, get_or_past, length-take-le}
+use Rattle.std.proofs.lemmas.Bool.{and_parts, ne_eqb, cases_lt, cases_Bool, or_cases, or_left, or_right, both_ways}
 use Rattle.kinds.specs.declared.refusal.Cause.TheVariants.{Line}
 use Rattle.digits.specs.Fields.{is_digit, Digits}
 use Rattle.reader.specs.declared.fault.Fault.{Fault}
 use Rattle.reader.specs.declared.fault.Layer.TheVariants as layer
 use Rattle.reader.specs.Faults.{fault}
-use Rattle.reader.specs.Lines.{Good, pieces, before_first, Broken, Whole}
-use Rattle.reader.specs.Turns.{is_known, Known, BadStart, FirstBroken}
+use Rattle.reader.specs.Lines.{Good, pieces, before_first, Broken, Whole, is_known, Known, FirstBroken}
+use Rattle.reader.specs.Turns.{BadStart}
 
 abbrev pub NoEnd : List ℕ → Type 0
 NoEnd l = (k : ℕ) → k < length l → get_or l k 0 ≡ 10 → ⊥
@@ -82,6 +82,14 @@ good_from l h = record {
 abbrev IsKnown : ℕ → Type 0
 IsKnown b = is_known b ≡ true
 
+-- a fold that asks of each byte whether it is known
+pub fold_known : (bs : List ℕ) (known : Bool) → fold (λ k b. k && is_known b) known bs ≡ true → (known ≡ true) × Known bs
+fold_known [] known on = (on, tt)
+fold_known (b ∷ bs) known on =
+    let more = fold_known bs (known && is_known b) on in
+    let here = and_parts _ _ more.0 in
+    (here.0, (here.1, more.1))
+
 -- known bytes before the end byte are digits
 pub known_digits : (s : List ℕ) (e : ℕ) → e ≤ length s → Known s → ((k : ℕ) → k < e → get_or s k 0 ≡ 10 → ⊥) → Digits (take e s)
 known_digits s e le known before = All-from_get_or IsDigit (take e s) 0 (λ i h.
@@ -91,11 +99,6 @@ known_digits s e le known before = All-from_get_or IsDigit (take e s) 0 (λ i h.
 
 pub end_off : (b : ℕ) → b ≡ 10 → is_digit b ≡ false
 end_off b e = ap is_digit e
-
-pub known_rest : (s line more : List ℕ) → s ≡ line ++ (10 ∷ more) → Known s → Known more
-known_rest s line more e known = All-from_get_or IsKnown more 0 (λ i h.
-    let at : get_or s (length line + suc i) 0 ≡ get_or more i 0 = ap (λ xs. get_or xs (length line + suc i) 0) e ∙ get_or-append-add line (10 ∷ more) (suc i) 0 in
-    subst IsKnown at (All-get_or IsKnown s (length line + suc i) 0 (omega (arith, h, simp length-append at (ap length e))) known))
 
 by_first : (P : ℕ → Type 0) → P 0 → ((j : ℕ) → P (suc j)) → (j : ℕ) → P j
 by_first P first others zero = first

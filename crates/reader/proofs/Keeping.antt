@@ -5,8 +5,8 @@ use Rattle.std.proofs.lemmas.List.{take_at, get_or-take, get_or-set_same, get_or
 use Rattle.std.proofs.lemmas.Int.{to_z-of_z}
 use Rattle.std.proofs.lemmas.Bool.{lt-ltb, cases_lt}
 use Rattle.kinds.specs.declared.reading.Reading.{Reading as NotedReading}
-use Rattle.digits.specs.Fields.{field, Number}
-use Rattle.digits.proofs.Fields.{field_length, number_is, number_written}
+use Rattle.digits.specs.Fields.{field, Fits, Number}
+use Rattle.digits.proofs.Fields.{field_length, number_written}
 use Rattle.archive.specs.File.{Figures, head_text, reading_text, entry_text, multiplier_text, end_text, edition, fits_unsigned, head_fits, reading_fits, entry_fits, multiplier_fits}
 use Rattle.reader.specs.declared.contents.Contents.{Contents}
 use Rattle.reader.specs.declared.machine.Machine.{Machine}
@@ -18,21 +18,39 @@ use Rattle.reader.specs.Heads.{HeadRead}
 use Rattle.reader.specs.Readable.{figures_of}
 use Rattle.reader.specs.declared.frames.Frame.TheVariants.{Head as HeadFrame}
 use Rattle.reader.specs.declared.frames.HeadFields.{HeadFields}
-use Rattle.reader.specs.Shapes.{Field, frame_text, HeadShaped}
+use Rattle.reader.specs.Shapes.{frame_text}
 use Rattle.reader.specs.Steps.{no_reading, text_of, fits_of, Put, LineTaken}
 
+reading_at : (n m j k : ℕ) → Reading k ≡ stage_at n m j → (j ≡ k) × (k < n)
+reading_at n m j k e = (grind arith, grind arith)
+
+entry_at : (n m j k : ℕ) → Entry k ≡ stage_at n m j → (j ≡ n + k) × (k < n)
+entry_at n m j k e = (grind arith, grind arith)
+
+multiplier_at : (n m j k : ℕ) → Multiplier k ≡ stage_at n m j → (j ≡ n + n + k) × (k < m)
+multiplier_at n m j k e = (grind arith, grind arith)
+
+end_at : (n m j : ℕ) → End ≡ stage_at n m j → j ≡ n + n + m
+end_at n m j e = grind arith
+
 -- what a stage says of the lines that were taken
-pub at_reading : (n m j k : ℕ) → Reading k ≡ stage_at n m j → (j ≡ k) × (k < n)
-at_reading n m j k e = (grind arith, grind arith)
+module _ (m : Machine) where
+  pub at_reading : (k : ℕ) → m.stage ≡ Reading k → (m.taken ≡ k) × (k < m.contents.head.readings)
+  at_reading k s = reading_at _ _ _ k (sym s ∙ m.waits (λ h. let e : Reading k ≡ Head = sym s ∙ h in cc))
 
-pub at_entry : (n m j k : ℕ) → Entry k ≡ stage_at n m j → (j ≡ n + k) × (k < n)
-at_entry n m j k e = (grind arith, grind arith)
+  pub at_entry : (k : ℕ) → m.stage ≡ Entry k → (m.taken ≡ m.contents.head.readings + k) × (k < m.contents.head.readings)
+  at_entry k s = entry_at _ _ _ k (sym s ∙ m.waits (λ h. let e : Entry k ≡ Head = sym s ∙ h in cc))
 
-pub at_multiplier : (n m j k : ℕ) → Multiplier k ≡ stage_at n m j → (j ≡ n + n + k) × (k < m)
-at_multiplier n m j k e = (grind arith, grind arith)
+  pub at_multiplier : (k : ℕ) → m.stage ≡ Multiplier k → (m.taken ≡ m.contents.head.readings + m.contents.head.readings + k) × (k < m.contents.count)
+  at_multiplier k s = multiplier_at _ _ _ k (sym s ∙ m.waits (λ h. let e : Multiplier k ≡ Head = sym s ∙ h in cc))
 
-pub at_end : (n m j : ℕ) → End ≡ stage_at n m j → j ≡ n + n + m
-at_end n m j e = grind arith
+  pub at_end : m.stage ≡ End → m.taken ≡ m.contents.head.readings + m.contents.head.readings + m.contents.count
+  at_end s = end_at _ _ _ (sym s ∙ m.waits (λ h. let e : End ≡ Head = sym s ∙ h in cc))
+
+number_field : (w x : ℕ) → w ≤ 16 → Fits w x → Number (field w x) x
+number_field w x short fits =
+    let size = field_length w x in
+    record { short = omega (arith, size); fits = subst (λ n. Fits n x) (sym size) fits; written = ap (λ n. field n x) size }
 
 -- the place that a frame has is the one that is waited for, or another
 place_is : (x y k : ℕ) (p t : List ℕ) → length p ≡ 4 → take (length (x ∷ y ∷ field 4 k)) (x ∷ y ∷ (p ++ t)) ≡ x ∷ y ∷ field 4 k → p ≡ field 4 k
@@ -40,19 +58,18 @@ place_is x y k p t size e =
     let tail : take (length (field 4 k)) (p ++ t) ≡ field 4 k = ap (drop 2) e in
     sym (take_at p t 4 size) ∙ ap (λ n. take n (p ++ t)) (sym (field_length 4 k)) ∙ tail
 
-pub other_place : (x y k n : ℕ) (p t : List ℕ) → Field 4 p → Number p n → k < 240 → (n ≡ k → ⊥) → take (length (x ∷ y ∷ field 4 k)) (x ∷ y ∷ (p ++ t)) ≡ x ∷ y ∷ field 4 k → ⊥
-other_place x y k n p t f r few ne e = ne (number_is 4 p n k (place_is x y k p t f.sized e) (omega arith) r)
+pub other_place : (x y k : ℕ) (p t : List ℕ) → length p ≡ 4 → k < 240 → (Number p k → ⊥) → take (length (x ∷ y ∷ field 4 k)) (x ∷ y ∷ (p ++ t)) ≡ x ∷ y ∷ field 4 k → ⊥
+other_place x y k p t size few other e =
+    let fits : Fits 4 k = omega arith in
+    other (subst (λ s. Number s k) (sym (place_is x y k p t size e)) (number_field 4 k (omega arith) fits))
 
 -- a number that was read is written as it stood
-pub written : (w : ℕ) (s : List ℕ) (x : ℕ) → Field w s → Number s x → field w x ≡ s
-written w s x f r = (number_written w s x f.sized r).1
+pub written : (w : ℕ) (s : List ℕ) (x : ℕ) → length s ≡ w → Number s x → field w x ≡ s
+written w s x size r = (number_written w s x size r).1
 
-pub at_place : (s : List ℕ) (n k : ℕ) → Field 4 s → Number s n → n ≡ k → field 4 k ≡ s
-at_place s n k f r e = ap (field 4) (sym e) ∙ written 4 s n f r
-
-pub fits_read : (w : ℕ) (s : List ℕ) (z : ℤ) → Field w s → Number s (nat_abs z) → le_z (pos 0) z ≡ true → fits_unsigned w z ≡ true
-fits_read w s z f r sign =
-    let small : ltb (nat_abs z) (16 ^ w) ≡ true = lt-ltb (nat_abs z) (16 ^ w) (number_written w s (nat_abs z) f.sized r).0 in
+pub fits_read : (w : ℕ) (s : List ℕ) (z : ℤ) → length s ≡ w → Number s (nat_abs z) → le_z (pos 0) z ≡ true → fits_unsigned w z ≡ true
+fits_read w s z size r sign =
+    let small : ltb (nat_abs z) (16 ^ w) ≡ true = lt-ltb (nat_abs z) (16 ^ w) (number_written w s (nat_abs z) size r).0 in
     rw (sign, small)
 
 -- a reading that was stored is the one that was read
@@ -169,17 +186,17 @@ kept l m m' s stage h put more taken next =
     }
 
 -- fields that were read are the head of the numbers that they write
-pub head_is : (f : HeadFields) (e : ℕ) (h : StatedHead) → HeadShaped f → Number f.edition.now e → HeadRead f h → HeadIs (frame_text (HeadFrame f)) e h
+pub head_is : (f : HeadFields) (e : ℕ) (h : StatedHead) → Number f.edition.bytes.now e → HeadRead f h → HeadIs (frame_text (HeadFrame f)) e h
 unfolding head_text
-head_is f e h s n r =
-    let a = number_written 2 f.edition.now e s.edition_field.sized n in
-    let b = number_written 4 f.roughness.now h.roughness s.roughness_field.sized r.roughness_is in
-    let c = number_written 6 f.misfit.now h.misfit s.misfit_field.sized r.misfit_is in
-    let d = number_written 6 f.bend.now h.bend s.bend_field.sized r.bend_is in
-    let i = number_written 4 f.readings.now h.readings s.readings_field.sized r.readings_is in
-    let j = number_written 4 f.stiffness.now h.stiffness s.stiffness_field.sized r.stiffness_is in
-    let k = number_written 4 f.denominator.now h.denominator s.denominator_field.sized r.denominator_is in
-    let l = number_written 16 f.allowance.now h.allowance s.allowance_field.sized r.allowance_is in
+head_is f e h n r =
+    let a = number_written 2 f.edition.bytes.now e f.edition.sized n in
+    let b = number_written 4 f.roughness.bytes.now h.roughness f.roughness.sized r.roughness_is in
+    let c = number_written 6 f.misfit.bytes.now h.misfit f.misfit.sized r.misfit_is in
+    let d = number_written 6 f.bend.bytes.now h.bend f.bend.sized r.bend_is in
+    let i = number_written 4 f.readings.bytes.now h.readings f.readings.sized r.readings_is in
+    let j = number_written 4 f.stiffness.bytes.now h.stiffness f.stiffness.sized r.stiffness_is in
+    let k = number_written 4 f.denominator.bytes.now h.denominator f.denominator.sized r.denominator_is in
+    let l = number_written 16 f.allowance.bytes.now h.allowance f.allowance.sized r.allowance_is in
     record {
       edition_fits = a.0;
       fitting = rw (lt-ltb _ _ b.0, lt-ltb _ _ c.0, lt-ltb _ _ d.0, lt-ltb _ _ i.0, lt-ltb _ _ j.0, lt-ltb _ _ k.0, lt-ltb _ _ l.0);

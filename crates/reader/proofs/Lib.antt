@@ -1,5 +1,4 @@
 pub mod Cuts
-pub mod Shaping
 pub mod Keeping
 pub mod Texts
 pub mod Heads

@@ -25,12 +25,13 @@ use Rattle.reader.specs.declared.stage.Stage.TheVariants.{Head, Reading, Entry, 
 use Rattle.reader.specs.declared.fault.Layer.TheVariants as layer
 use Rattle.reader.specs.Faults.{fault}
 use Rattle.reader.specs.Lines.{Good, pieces}
-use Rattle.reader.specs.Turns.{Known, Next}
-use Rattle.reader.specs.Frames.{stage_at, InTurn, HeadIs, Agrees, reach_of, Disorder, headless, unlike, many, short, misplaced}
+use Rattle.reader.specs.Turns.{Next}
+use Rattle.reader.specs.Frames.{stage_at, size, InTurn, HeadIs, Agrees, reach_of, Disorder, headless, unlike, many, short, misplaced}
+use Rattle.reader.specs.Heads.{HeadOff, HeadRefused}
 use Rattle.reader.specs.Order.{FirstDisorder}
 use Rattle.reader.specs.Readable.{figures_of, InForm}
-use Rattle.reader.specs.Steps.{no_reading, text_of, fits_of, Running, Steady, SteadyAt, HeadTaken, HeadOff, HeadRefused, LineTaken, Stepped, SteppedAt}
-use Rattle.reader.proofs.Cuts.{Upto, known_rest, upto_line, upto_more, upto_past, upto_count}
+use Rattle.reader.specs.Steps.{no_reading, text_of, fits_of, Running, HeadTaken, LineTaken, Stepped, SteppedAt}
+use Rattle.reader.proofs.Cuts.{Upto, upto_line, upto_more, upto_past, upto_count}
 use Rattle.reader.proofs.Heads.{head_one}
 use Rattle.reader.proofs.Texts.{stage_reading, stage_entry, stage_multiplier, stage_some, stage_behind, index, index_at, texts_count, body_at, head_in_turn, text_in_turn, file_from}
 
@@ -56,17 +57,6 @@ abbrev pub Reached : Option Wanted → List (List ℕ) → ℕ → Machine → T
 Reached w ls t m = ReachedAt w ls t m m.stage
 
 module _ (w : Option Wanted) (ls : List (List ℕ)) (t : ℕ) (m : Machine) where
-  steady_at : (s : Stage) → ReachedAt w ls t m s → SteadyAt m s
-  steady_at Head a = tt
-  steady_at (Reading k) a = a.running
-  steady_at (Entry k) a = a.running
-  steady_at (Multiplier k) a = a.running
-  steady_at End a = a.running
-  steady_at Nothing a = a.running
-
-  pub steady : Reached w ls t m → Steady m
-  steady a = steady_at m.stage a
-
   past_clean : Past w ls t m → (l u : ℕ) (c : Cause) → Disorder w ls l u c → l < t + 1 → ⊥
   past_clean a l u c (headless none) lt = none (head_in_turn (get_or ls 0 []) edition m.contents.head a.head)
   past_clean a l u c (unlike {e} {h} i no-like) lt =
@@ -339,7 +329,6 @@ pub record Turned (bs : List ℕ) (a b : Lines) (l : List ℕ) : Type 0 where
   pub good : Good l
   pub upto : Upto bs b.rest.now b.taken
   pub less : length b.rest.now < length a.rest.now
-  pub known : Known a.rest.now → Known b.rest.now
 
 pub turned : (bs : List ℕ) (a b : Lines) (o : Option (Bor (List ℕ))) (l : Bor (List ℕ)) → Upto bs a.rest.now a.taken → Next a b (Ok o) → o ≡ Some l → Turned bs a b l.now
 turned bs a b o l u n e =
@@ -350,15 +339,23 @@ turned bs a b o l u n e =
       good = m.2;
       upto = subst (Upto bs b.rest.now) (sym m.1) (upto_more bs a.rest.now l.now b.rest.now a.taken u m.0 m.2);
       less = omega (arith, simp length-append at (ap length m.0));
-      known = known_rest a.rest.now l.now b.rest.now m.0;
     }
+
+-- of all stages, only the last waits for no digits
+no_digits : (s : Stage) → 0 ≡ size s → s ≡ Nothing
+no_digits Head e = absurd (omega arith)
+no_digits (Reading k) e = absurd (omega arith)
+no_digits (Entry k) e = absurd (omega arith)
+no_digits (Multiplier k) e = absurd (omega arith)
+no_digits End e = absurd (omega arith)
+no_digits Nothing e = refl
 
 -- nothing is left: no line stands where the machine waits for one
 pub missing : (w : Option Wanted) (bs : List ℕ) (a b : Lines) (o : Option (Bor (List ℕ))) (m : Machine) (f : Fault) → Upto bs a.rest.now a.taken → Next a b (Ok o) → o ≡ None
-    → Reached w (pieces bs) a.taken m → (InTurn m.stage [] → ⊥) → f ≡ fault layer.Frames Frame (b.taken + 1) → FirstDisorder w (pieces bs) f
-missing w bs a b o m f u n e r bad is =
+    → Reached w (pieces bs) a.taken m → (m.stage ≡ Nothing → ⊥) → f ≡ fault layer.Frames Frame (b.taken + 1) → FirstDisorder w (pieces bs) f
+missing w bs a b o m f u n e r waits is =
     let x : Next a b (Ok None) = subst (λ y. Next a b (Ok y)) e n in
-    odd w (pieces bs) a.taken m r f (is ∙ ap (λ y. fault layer.Frames Frame (y.taken + 1)) x.1) (λ t. bad (subst (InTurn m.stage) (upto_past bs a.rest.now a.taken u x.0 a.taken (omega arith)) t))
+    odd w (pieces bs) a.taken m r f (is ∙ ap (λ y. fault layer.Frames Frame (y.taken + 1)) x.1) (λ t. waits (no_digits m.stage (subst (InTurn m.stage) (upto_past bs a.rest.now a.taken u x.0 a.taken (omega arith)) t).sized))
 
 pub finished : (w : Option Wanted) (bs : List ℕ) (a b : Lines) (o : Option (Bor (List ℕ))) (m : Machine) → Upto bs a.rest.now a.taken → Next a b (Ok o) → o ≡ None
     → Reached w (pieces bs) a.taken m → m.stage ≡ Nothing → Fits 16 m.contents.cost → SFits w64 m.contents.floor → InForm w (figures_of m.contents) × (bs ≡ file (figures_of m.contents))

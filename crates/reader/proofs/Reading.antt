@@ -6,10 +6,9 @@ use Rattle.reader.specs.declared.contents.Contents.{Contents}
 use Rattle.reader.specs.declared.contents.Wanted.{Wanted}
 use Rattle.reader.specs.declared.fault.Fault.{Fault}
 use Rattle.reader.specs.Faults.{Rank, rank, Before, Least}
-use Rattle.reader.specs.Lines.{pieces, Whole}
+use Rattle.reader.specs.Lines.{pieces, Whole, FirstBroken}
 use Rattle.reader.specs.Order.{FirstDisorder, FramesRead}
 use Rattle.reader.specs.Readable.{figures_of, Unreadable, in_lines, in_frames, ReadAs, ComesBack}
-use Rattle.reader.specs.Turns.{FirstBroken}
 use Rattle.reader.proofs.Same.{no_unreadable, same_figures}
 
 pub least_broken : (w : Option Wanted) (bs : List ℕ) (f : Fault) → FirstBroken bs f → Least (Unreadable w bs) f

@@ -3,10 +3,18 @@
 --     pieces          what stands before each end byte, and at last what stands after them all
 --     Broken          that a line, counted from 0, is broken: it is not good, or it has no end byte
 --     Whole           that no line is broken
+--     FirstBroken     that a fault names the first broken line
+--     is_known        whether a byte is a digit or an end byte
+--     Known           that all bytes are
 -- A file that ends with an end byte has an empty last piece, which is no line. A file without any byte has one line, and
 -- that line is broken.
-use Rattle.std.specs.Prelude.{◌≡◌, ℕ, suc, ◌<◌, ◌≤◌, cond, ◌⊎◌, List, [], ◌∷◌, length, ◌==◌, ◌≢◌, slice_index_or}
-use Rattle.digits.specs.Fields.{Digits}
+use Rattle.std.specs.Prelude.{◌≡◌, ℕ, suc, ◌<◌, ◌≤◌, Bool, true, cond, ◌||◌, ◌⊎◌, List, [], ◌∷◌, length, ◌==◌, ◌≢◌, slice_index_or}
+use Rattle.std.specs.List.{AllByRecursion}
+use Rattle.kinds.specs.declared.refusal.Cause.TheVariants.{Line}
+use Rattle.digits.specs.Fields.{is_digit, Digits}
+use Rattle.reader.specs.declared.fault.Fault.{Fault}
+use Rattle.reader.specs.declared.fault.Layer.TheVariants as layer
+use Rattle.reader.specs.Faults.{fault}
 
 pub record Good (l : List ℕ) : Type 0 where
   pub least : 2 ≤ length l
@@ -30,3 +38,15 @@ Broken bs k =
 
 abbrev pub Whole : List ℕ → Type 0
 Whole bs = (k : ℕ) → Broken bs k → ⊥
+
+pub record FirstBroken (bs : List ℕ) (f : Fault) : Type 0 where
+  pub at : ℕ
+  pub is : f ≡ fault layer.Lines Line (suc at)
+  pub broken : Broken bs at
+  pub before : (j : ℕ) → j < at → Broken bs j → ⊥
+
+abbrev pub is_known : ℕ → Bool
+is_known b = is_digit b || b == 10
+
+abbrev pub Known : List ℕ → Type 0
+Known bs = AllByRecursion (λ b. is_known b ≡ true) bs

@@ -4,18 +4,13 @@
 --     fits_of         whether the figures of that line fit their fields
 --     Put             figures with the line of one stage put in: that of every other stage is as it was
 --     Running         a machine behind the head: it waits for what has to come after the lines it took
---     Steady          a machine that waits for the head, or is running; `SteadyAt` by its stage
 --     HeadTaken       a head that the machine takes
---     HeadOff         why a head is refused: its edition or marks, too many readings, or too few
---     HeadChecked     what the check of a head answers: the number of multipliers, or the fault
---     HeadRefused     a line that is refused as the head, with the fault
 --     LineTaken       a later line that the machine takes
 --     HeadStepped, LineStepped       a step at the head, and behind it
 --     Stepped         one step: of the line, its number, the machine before and after, and the answer; `SteppedAt` by stage
-use Rattle.std.specs.Prelude.{◌≡◌, ℕ, ◌+◌, ◌-◌, ◌<◌, ◌≤◌, Bool, true, ◌⊎◌, List, [], pos, Ok, Err, Option, Result, ◌≢◌, slice_index_or}
+use Rattle.std.specs.Prelude.{◌≡◌, ℕ, ◌+◌, ◌-◌, ◌<◌, ◌≤◌, Bool, true, List, [], pos, Ok, Err, Option, Result, ◌≢◌, slice_index_or}
 use Rattle.kinds.specs.declared.reading.Reading.{Reading as NotedReading}
-use Rattle.kinds.specs.declared.refusal.Cause.TheVariants.{Frame, Mark, Full, Short}
-use Rattle.archive.specs.declared.figures.Head.{Head as StatedHead}
+use Rattle.kinds.specs.declared.refusal.Cause.TheVariants.{Frame}
 use Rattle.archive.specs.File.{Figures, edition, head_text, reading_text, entry_text, multiplier_text, end_text, head_fits, reading_fits, entry_fits, multiplier_fits}
 use Rattle.reader.specs.declared.contents.Wanted.{Wanted}
 use Rattle.reader.specs.declared.fault.Fault.{Fault}
@@ -24,7 +19,8 @@ use Rattle.reader.specs.declared.stage.Stage.{Stage}
 use Rattle.reader.specs.declared.stage.Stage.TheVariants.{Head, Reading, Entry, Multiplier, End, Nothing}
 use Rattle.reader.specs.declared.fault.Layer.TheVariants as layer
 use Rattle.reader.specs.Faults.{fault}
-use Rattle.reader.specs.Frames.{stage_at, InTurn, HeadIs, Agrees, Like, reach_of}
+use Rattle.reader.specs.Heads.{HeadRefused}
+use Rattle.reader.specs.Frames.{stage_at, InTurn, HeadIs, Agrees, reach_of}
 use Rattle.reader.specs.Readable.{figures_of}
 
 abbrev pub no_reading : NotedReading
@@ -56,17 +52,6 @@ pub record Running (m : Machine) : Type 0 where
   pub waits : m.stage ≡ stage_at m.contents.head.readings m.contents.count m.taken
   pub room : m.taken ≤ m.contents.head.readings + m.contents.head.readings + m.contents.count + 1
 
-abbrev pub SteadyAt : Machine → Stage → Type 0
-SteadyAt m Head = Unit {0}
-SteadyAt m (Reading k) = Running m
-SteadyAt m (Entry k) = Running m
-SteadyAt m (Multiplier k) = Running m
-SteadyAt m End = Running m
-SteadyAt m Nothing = Running m
-
-abbrev pub Steady : Machine → Type 0
-Steady m = SteadyAt m m.stage
-
 pub record HeadTaken (w : Option Wanted) (l : List ℕ) (m : Machine) : Type 0 where
   pub head : HeadIs l edition m.contents.head
   pub agrees : Agrees w m.contents.head
@@ -74,21 +59,6 @@ pub record HeadTaken (w : Option Wanted) (l : List ℕ) (m : Machine) : Type 0 w
   pub count : m.contents.count ≡ m.contents.head.readings - reach_of w
   pub none : m.taken ≡ 0
   pub running : Running m
-
-abbrev pub HeadOff : Option Wanted → ℕ → StatedHead → ℕ → Fault → Type 0
-HeadOff w e h at f =
-    ((f ≡ fault layer.Frames Mark at) × (Like w e h → ⊥))
-    ⊎ (((f ≡ fault layer.Frames Full at) × Like w e h × (240 < h.readings))
-    ⊎ ((f ≡ fault layer.Frames Short at) × Like w e h × (h.readings ≤ 240) × (h.readings ≤ reach_of w)))
-
-abbrev pub HeadChecked : Option Wanted → ℕ → StatedHead → ℕ → Result ℕ Fault → Type 0
-HeadChecked w e h at (Ok m) = Like w e h × (h.readings ≤ 240) × (reach_of w < h.readings) × (m ≡ h.readings - reach_of w)
-HeadChecked w e h at (Err f) = HeadOff w e h at f
-
-abbrev pub HeadRefused : Option Wanted → List ℕ → ℕ → Fault → Type 0
-HeadRefused w l at f =
-    ((f ≡ fault layer.Frames Frame at) × (InTurn Head l → ⊥))
-    ⊎ ((e : ℕ) × (h : StatedHead) × HeadIs l e h × HeadOff w e h at f)
 
 pub record LineTaken (l : List ℕ) (m m' : Machine) : Type 0 where
   pub put : Put m.stage l (figures_of m.contents) (figures_of m'.contents)

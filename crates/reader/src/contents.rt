@@ -32,6 +32,26 @@ pub struct Wanted {
 }
 
 impl Contents {
+    ghost use Rattle.reader.specs.Readable.{figures_of};
+
+    pub fn readings(&self) -> &[Reading]
+        ensures { result.now ≡ (figures_of self.now).readings }
+    {
+        &self.readings[..self.head.readings as usize]
+    }
+
+    pub fn entries(&self) -> &[i64]
+        ensures { result.now ≡ (figures_of self.now).entries }
+    {
+        &self.entries[..self.head.readings as usize]
+    }
+
+    pub fn multipliers(&self) -> &[i64]
+        ensures { result.now ≡ (figures_of self.now).multipliers }
+    {
+        &self.multipliers[..self.count]
+    }
+
     // No figures yet.
     pub(crate) fn none() -> Contents {
         let reading = Reading {

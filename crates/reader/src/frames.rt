@@ -1,23 +1,24 @@
 // The second layer: the frames, with their fields as parts of the file.
-ghost use Rattle.std.specs.Prelude.{◌≡◌, ◌≤◌, ◌∷◌, length, MatchResult};
+ghost use Rattle.std.specs.Prelude.{◌≡◌, MatchResult};
 ghost use Rattle.reader.specs.Faults.{fault};
 ghost use Rattle.reader.specs.Lines.{Good};
-ghost use Rattle.reader.specs.Shapes.{Field, form, Cut, frame_text, Shaped, NoFrame};
+ghost use Rattle.reader.specs.Shapes.{frame_text, NoFrame};
 
 use crate::fault::{Fault, Layer};
+use crate::values::{Digits, Rest};
 use kinds::refusal::Cause;
 
 // The fields of a head, each a part of its line.
 #[derive(Clone, Copy)]
 pub(crate) struct HeadFields<'a> {
-    pub edition: &'a [u8],
-    pub roughness: &'a [u8],
-    pub misfit: &'a [u8],
-    pub bend: &'a [u8],
-    pub readings: &'a [u8],
-    pub stiffness: &'a [u8],
-    pub denominator: &'a [u8],
-    pub allowance: &'a [u8],
+    pub edition: Digits<'a, 2>,
+    pub roughness: Digits<'a, 4>,
+    pub misfit: Digits<'a, 6>,
+    pub bend: Digits<'a, 6>,
+    pub readings: Digits<'a, 4>,
+    pub stiffness: Digits<'a, 4>,
+    pub denominator: Digits<'a, 4>,
+    pub allowance: Digits<'a, 16>,
 }
 
 // A frame; each field is a part of its line.
@@ -25,123 +26,64 @@ pub(crate) struct HeadFields<'a> {
 pub(crate) enum Frame<'a> {
     Head(HeadFields<'a>),
     Reading {
-        place: &'a [u8],
-        minute: &'a [u8],
-        crude: &'a [u8],
-        weight: &'a [u8],
+        place: Digits<'a, 4>,
+        minute: Digits<'a, 8>,
+        crude: Digits<'a, 4>,
+        weight: Digits<'a, 4>,
     },
     Entry {
-        place: &'a [u8],
-        value: &'a [u8],
+        place: Digits<'a, 4>,
+        value: Digits<'a, 4>,
     },
     Multiplier {
-        place: &'a [u8],
-        value: &'a [u8],
+        place: Digits<'a, 4>,
+        value: Digits<'a, 8>,
     },
     End {
-        cost: &'a [u8],
-        floor: &'a [u8],
+        cost: Digits<'a, 16>,
+        floor: Digits<'a, 16>,
     },
 }
 
-// Which frame a line is, by its leading pair and the digits that follow.
-#[derive(Clone, Copy)]
-pub(crate) enum Form {
-    Head,
-    Reading,
-    Entry,
-    Multiplier,
-    End,
-    Other,
-}
-
-fn form_of(a: u8, b: u8, digits: usize) -> Form
-    ensures { result ≡ form a b digits }
-{
-    if a == 48 && b == 49 && digits == 46 {
-        Form::Head
-    } else if a == 48 && b == 50 && digits == 20 {
-        Form::Reading
-    } else if a == 48 && b == 51 && digits == 8 {
-        Form::Entry
-    } else if a == 48 && b == 52 && digits == 12 {
-        Form::Multiplier
-    } else if a == 70 && b == 70 && digits == 32 {
-        Form::End
-    } else {
-        Form::Other
-    }
-}
-
-// The first field of `digits`, and what follows it.
-fn cut<'a>(digits: &'a [u8], width: usize) -> (&'a [u8], &'a [u8])
-    requires { width ≤ length digits.now }
-    ensures { Cut width digits.now result.0.now result.1.now }
-{
-    digits.split_at(width)
-}
-
-fn head_frame<'a>(digits: &'a [u8]) -> Frame<'a>
-    requires { Field 46 digits.now }
-    ensures { (48 ∷ 49 ∷ digits.now ≡ frame_text result) × Shaped result }
-{
-    let (edition, rest) = cut(digits, 2);
-    let (roughness, rest) = cut(rest, 4);
-    let (misfit, rest) = cut(rest, 6);
-    let (bend, rest) = cut(rest, 6);
-    let (readings, rest) = cut(rest, 4);
-    let (stiffness, rest) = cut(rest, 4);
-    let (denominator, allowance) = cut(rest, 4);
-    Frame::Head(HeadFields {
-        edition,
-        roughness,
-        misfit,
-        bend,
-        readings,
-        stiffness,
-        denominator,
-        allowance,
-    })
-}
-
-fn reading_frame<'a>(digits: &'a [u8]) -> Frame<'a>
-    requires { Field 20 digits.now }
-    ensures { (48 ∷ 50 ∷ digits.now ≡ frame_text result) × Shaped result }
-{
-    let (place, rest) = cut(digits, 4);
-    let (minute, rest) = cut(rest, 8);
-    let (crude, weight) = cut(rest, 4);
-    Frame::Reading {
-        place,
-        minute,
-        crude,
-        weight,
-    }
-}
-
-// The frame that a line is.
+// The frame that a line is, by its leading pair and how many digits follow.
 pub(crate) fn read_frame<'a>(line: &'a [u8], at: usize) -> Result<Frame<'a>, Fault>
     requires { Good line.now }
-    ensures { MatchResult result (λ f. (line.now ≡ frame_text f) × Shaped f) (λ e. (e ≡ fault Layer.Frames Cause.Frame at) × NoFrame line.now) }
+    ensures { MatchResult result (λ f. line.now ≡ frame_text f) (λ e. (e ≡ fault Layer.Frames Cause.Frame at) × NoFrame line.now) }
 {
-    let [a, b, digits @ ..] = line else {
+    let [a, b, rest @ ..] = line else {
         return Err(Fault::new(Layer::Frames, Cause::Frame, at));
     };
-    match form_of(*a, *b, digits.len()) {
-        Form::Head => Ok(head_frame(digits)),
-        Form::Reading => Ok(reading_frame(digits)),
-        Form::Entry => {
-            let (place, value) = cut(digits, 4);
-            Ok(Frame::Entry { place, value })
-        }
-        Form::Multiplier => {
-            let (place, value) = cut(digits, 4);
-            Ok(Frame::Multiplier { place, value })
-        }
-        Form::End => {
-            let (cost, floor) = cut(digits, 16);
-            Ok(Frame::End { cost, floor })
-        }
-        Form::Other => Err(Fault::new(Layer::Frames, Cause::Frame, at)),
+    let size = rest.len();
+    let mut rest = Rest { bytes: rest };
+    match (*a, *b, size) {
+        (b'0', b'1', 46) => Ok(Frame::Head(HeadFields {
+            edition: rest.field(),
+            roughness: rest.field(),
+            misfit: rest.field(),
+            bend: rest.field(),
+            readings: rest.field(),
+            stiffness: rest.field(),
+            denominator: rest.field(),
+            allowance: rest.field(),
+        })),
+        (b'0', b'2', 20) => Ok(Frame::Reading {
+            place: rest.field(),
+            minute: rest.field(),
+            crude: rest.field(),
+            weight: rest.field(),
+        }),
+        (b'0', b'3', 8) => Ok(Frame::Entry {
+            place: rest.field(),
+            value: rest.field(),
+        }),
+        (b'0', b'4', 12) => Ok(Frame::Multiplier {
+            place: rest.field(),
+            value: rest.field(),
+        }),
+        (b'F', b'F', 32) => Ok(Frame::End {
+            cost: rest.field(),
+            floor: rest.field(),
+        }),
+        _ => Err(Fault::new(Layer::Frames, Cause::Frame, at)),
     }
 }

@@ -1,26 +1,12 @@
 // The first layer: the lines of a file.
-ghost use Rattle.std.specs.Prelude.{◌≡◌, ℕ, ◌+◌, ◌^◌, ◌<◌, ◌≤◌, true, false, length, take, MatchResult, ◌≢◌, slice_index};
+ghost use Rattle.std.specs.Prelude.{◌≡◌, ℕ, ◌+◌, ◌^◌, ◌<◌, ◌≤◌, ◌&&◌, true, false, length, take, fold, MatchResult, ◌≢◌, slice_index};
+ghost use Rattle.std.proofs.Props.{props};
 ghost use Rattle.digits.specs.Fields.{is_digit, Digits};
-ghost use Rattle.reader.specs.Lines.{Whole};
-ghost use Rattle.reader.specs.Turns.{is_known, Known, Next, FirstBroken};
+ghost use Rattle.reader.specs.Lines.{Whole, FirstBroken, is_known, Known};
 
 use crate::fault::{Fault, Layer};
 use digits::is_digit;
 use kinds::refusal::Cause;
-
-// Where the first end byte stands, or how many bytes there are.
-fn line_end(bytes: &[u8]) -> usize
-    ensures within { result ≤ length bytes.now }
-    ensures before { (k : ℕ) → k < result → slice_index bytes.now k ≢ 10 }
-    ensures stops { result < length bytes.now → slice_index bytes.now result ≡ 10 }
-{
-    for (at, byte) in bytes.iter().enumerate() {
-        if *byte == 10 {
-            return at;
-        }
-    }
-    bytes.len()
-}
 
 fn is_known(byte: u8) -> bool
     ensures { result ≡ is_known byte }
@@ -28,55 +14,91 @@ fn is_known(byte: u8) -> bool
     is_digit(byte) || byte == 10
 }
 
-// Whether all bytes are digits or end bytes. The loop has no way out, so that it takes many bytes at a time.
+// Whether all bytes are digits or end bytes. It goes over all of them, so that it takes many bytes at a time: `all`, which
+// stops at the first that is not, took nine times as long.
 fn all_known(bytes: &[u8]) -> bool
-    ensures { result ≡ true → Known bytes.now }
+    ensures { result ≡ fold (λ known b. known && is_known b) true bytes.now }
 {
-    let mut known = true;
-    for byte in bytes {
-        known &= is_known(*byte);
-    }
-    known
+    bytes
+        .iter()
+        .fold(true, |known, byte| known & is_known(*byte))
 }
 
-// How many digits stand at the start. Where all bytes are known, the end byte alone is looked for.
-fn leading_digits(bytes: &[u8], known: bool) -> usize
-    requires { known ≡ true → Known bytes.now }
+// Where the first end byte stands, or how many bytes there are.
+fn line_end(bytes: &[u8]) -> usize
     ensures within { result ≤ length bytes.now }
-    ensures digits { Digits (take result bytes.now) }
-    ensures stops { result < length bytes.now → is_digit (slice_index bytes.now result) ≡ false }
+    ensures before { (k : ℕ) → k < result → slice_index bytes.now k ≢ 10 }
+    ensures stops { result < length bytes.now → slice_index bytes.now result ≡ 10 }
 {
-    if known {
-        return line_end(bytes);
-    }
-    for (at, byte) in bytes.iter().enumerate() {
-        if !is_digit(*byte) {
-            return at;
-        }
-    }
-    bytes.len()
+    bytes
+        .iter()
+        .position(|byte| *byte == 10)
+        .unwrap_or(bytes.len())
 }
 
 // Hands out one line after the other, without its end byte.
 #[derive(Clone, Copy)]
 pub(crate) struct Lines<'a> {
     // what is left of the file
-    pub rest: &'a [u8],
+    rest: &'a [u8],
     // how many lines were handed out
     pub taken: usize,
+    // whether only digits and end bytes are left, as far as it was looked at
+    known: bool,
+    ghost room: { taken + length rest.now < 2 ^ 64 },
+    ghost looked: { known ≡ true → Known rest.now } by { Prim.hlevel props },
 }
 
 impl<'a> Lines<'a> {
+    ghost use Rattle.reader.specs.Turns.{Next};
+
+    pub(crate) fn of(file: &'a [u8]) -> Lines<'a>
+        ensures rest { result.rest.now ≡ file.now }
+        ensures taken { result.taken ≡ 0 }
+    {
+        Lines {
+            rest: file,
+            taken: 0,
+            known: all_known(file),
+        }
+    }
+
+    // The same for a file of good lines, without a look at its bytes.
+    pub(crate) fn of_good(file: &'a [u8]) -> Lines<'a>
+        requires { Whole file.now }
+        ensures rest { result.rest.now ≡ file.now }
+        ensures taken { result.taken ≡ 0 }
+    {
+        Lines {
+            rest: file,
+            taken: 0,
+            known: true,
+        }
+    }
+
+    // How many digits stand at the start. Where all bytes are known, the end byte alone is looked for.
+    fn leading_digits(&self) -> usize
+        ensures within { result ≤ length self.now.rest.now }
+        ensures digits { Digits (take result self.now.rest.now) }
+        ensures stops { result < length self.now.rest.now → is_digit (slice_index self.now.rest.now result) ≡ false }
+    {
+        if self.known {
+            return line_end(self.rest);
+        }
+        self.rest
+            .iter()
+            .position(|byte| !is_digit(*byte))
+            .unwrap_or(self.rest.len())
+    }
+
     // The next line, or none where nothing is left.
-    pub(crate) fn next_line(&mut self, known: bool) -> Result<Option<&'a [u8]>, Fault>
-        requires room { self.old.taken + length self.old.rest.now < 2 ^ 64 }
-        requires known { known ≡ true → Known self.old.rest.now }
+    pub(crate) fn next_line(&mut self) -> Result<Option<&'a [u8]>, Fault>
         ensures { Next self.old self.new result }
     {
-        if self.rest.len() == 0 {
+        if self.rest.is_empty() {
             return Ok(None);
         }
-        let end = leading_digits(self.rest, known);
+        let end = self.leading_digits();
         if end == self.rest.len() || self.rest[end] != 10 || end < 2 || end > 60 {
             return Err(Fault::new(Layer::Lines, Cause::Line, self.taken + 1));
         }
@@ -91,12 +113,8 @@ impl<'a> Lines<'a> {
 pub(crate) fn check_lines(file: &[u8]) -> Result<(), Fault>
     ensures { MatchResult result (λ _. Whole file.now) (λ f. FirstBroken file.now f) }
 {
-    let mut lines = Lines {
-        rest: file,
-        taken: 0,
-    };
-    let known = all_known(file);
-    while let Some(_line) = lines.next_line(known)? {}
+    let mut lines = Lines::of(file);
+    while let Some(_line) = lines.next_line()? {}
     if lines.taken == 0 {
         return Err(Fault::new(Layer::Lines, Cause::Line, 1));
     }

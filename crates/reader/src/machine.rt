@@ -1,34 +1,34 @@
 // The machine of the frame layer: the stage that is reached and the frame that comes decide whether it is in order.
-ghost use Rattle.std.specs.Prelude.{◌≡◌, ◌+◌, ◌≤◌, ◌∷◌, ◌++◌};
+ghost use Rattle.std.specs.Prelude.{◌≡◌, ◌≢◌, ◌+◌, ◌∷◌, ◌++◌, MatchResult};
+ghost use Rattle.digits.specs.Fields.{Number};
+ghost use Rattle.reader.specs.Faults.{fault};
 ghost use Rattle.reader.specs.Frames.{stage_at};
-ghost use Rattle.reader.specs.Shapes.{Field, frame_text, HeadShaped, Shaped};
-ghost use Rattle.reader.specs.Steps.{Running, Steady, HeadChecked, HeadStepped, LineStepped, Stepped};
-ghost use Rattle.reader.specs.Heads.{HeadRead};
+ghost use Rattle.reader.specs.Heads.{HeadRead, HeadChecked};
+ghost use Rattle.reader.specs.Shapes.{frame_text};
 ghost use Rattle.reader.specs.declared.frames.Frame.TheVariants.{Head as HeadFrame};
-ghost use Rattle.reader.specs.declared.stage.Stage.TheVariants.{Head as AtHead, Reading as AtReading, Entry as AtEntry, Multiplier as AtMultiplier, End as AtEnd};
+ghost use Rattle.reader.specs.declared.stage.Stage.TheVariants.{Head as AtHead, Reading as AtReading, Entry as AtEntry, Multiplier as AtMultiplier, End as AtEnd, Nothing as AtNothing};
 
 use crate::contents::{Contents, Wanted};
 use crate::fault::{Fault, Layer};
 use crate::frames::{Frame, HeadFields};
 use crate::stage::{Stage, awaited};
-use crate::values::{figure, long_signed, short_signed, unsigned};
+use crate::values::Digits;
 use archive::figures::Head;
 use kinds::reading::Reading;
 use kinds::refusal::Cause;
 
 // The figures of a head, from its fields.
 fn head_of(fields: HeadFields<'_>) -> Head
-    requires { HeadShaped fields }
     ensures { HeadRead fields.entry result }
 {
     Head {
-        roughness: figure(fields.roughness),
-        misfit: figure(fields.misfit),
-        bend: figure(fields.bend),
-        readings: figure(fields.readings),
-        stiffness: figure(fields.stiffness),
-        denominator: figure(fields.denominator),
-        allowance: figure(fields.allowance),
+        roughness: fields.roughness.figure(),
+        misfit: fields.misfit.figure(),
+        bend: fields.bend.figure(),
+        readings: fields.readings.figure(),
+        stiffness: fields.stiffness.figure(),
+        denominator: fields.denominator.figure(),
+        allowance: fields.allowance.figure(),
     }
 }
 
@@ -41,9 +41,9 @@ fn check_head(wanted: Option<Wanted>, edition: u64, head: Head, at: usize) -> Re
         return Err(Fault::new(Layer::Frames, Cause::Mark, at));
     };
     if edition != 1
-        || head.roughness != wanted.roughness as u64
-        || head.misfit != wanted.misfit as u64
-        || head.bend != wanted.bend as u64
+        || head.roughness != u64::from(wanted.roughness)
+        || head.misfit != u64::from(wanted.misfit)
+        || head.bend != u64::from(wanted.bend)
     {
         return Err(Fault::new(Layer::Frames, Cause::Mark, at));
     }
@@ -57,15 +57,29 @@ fn check_head(wanted: Option<Wanted>, edition: u64, head: Head, at: usize) -> Re
     Ok(readings - wanted.reach)
 }
 
+// Whether a frame has the place that is waited for.
+fn check_place(place: Digits<'_, 4>, k: usize, at: usize) -> Result<(), Fault>
+    ensures { MatchResult result (λ _. Number place.entry.bytes.now k) (λ f. (f ≡ fault Layer.Frames Cause.Frame at) × (Number place.entry.bytes.now k → ⊥)) }
+{
+    if place.figure() != k as u64 {
+        return Err(Fault::new(Layer::Frames, Cause::Frame, at));
+    }
+    Ok(())
+}
+
+// Behind the head, what it waits for is what the head's counts and the lines taken since give.
 #[derive(Clone, Copy)]
 pub(crate) struct Machine {
     pub stage: Stage,
     // how many lines behind the head were taken
     pub taken: usize,
     pub contents: Contents,
+    ghost waits: { stage ≢ AtHead → stage ≡ stage_at contents.head.readings contents.count taken },
 }
 
 impl Machine {
+    ghost use Rattle.reader.specs.Steps.{HeadStepped, LineStepped, Stepped};
+
     // A machine that waits for the head.
     pub(crate) fn new() -> Machine
         ensures { result.stage ≡ AtHead }
@@ -77,54 +91,52 @@ impl Machine {
         }
     }
 
-    // One line more is taken.
+    // One line more is taken, behind the head.
     fn advance(&mut self)
-        requires { self.old.taken ≤ 1000 }
+        requires head { self.old.stage ≢ AtHead }
+        requires more { self.old.stage ≢ AtNothing }
         ensures taken { self.new.taken ≡ self.old.taken + 1 }
         ensures stage { self.new.stage ≡ stage_at self.old.contents.head.readings self.old.contents.count (self.old.taken + 1) }
         ensures contents { self.new.contents ≡ self.old.contents }
     {
         self.taken += 1;
-        let readings = self.contents.head.readings as usize;
-        self.stage = awaited(readings, self.contents.count, self.taken);
+        self.stage = awaited(&self.contents, self.taken);
     }
 
     fn keep_reading(
         &mut self,
         k: usize,
-        place: &[u8],
-        minute: &[u8],
-        crude: &[u8],
-        weight: &[u8],
+        place: Digits<'_, 4>,
+        minute: Digits<'_, 8>,
+        crude: Digits<'_, 4>,
+        weight: Digits<'_, 4>,
         at: usize,
     ) -> Result<(), Fault>
-        requires stage { self.old.stage ≡ AtReading k }
-        requires running { Running self.old }
-        requires fields { Field 4 place.now × Field 8 minute.now × Field 4 crude.now × Field 4 weight.now }
-        ensures { LineStepped (48 ∷ 50 ∷ (place.now ++ (minute.now ++ (crude.now ++ weight.now)))) at self.old self.new result }
+        requires { self.old.stage ≡ AtReading k }
+        ensures { LineStepped (48 ∷ 50 ∷ (place.entry.bytes.now ++ (minute.entry.bytes.now ++ (crude.entry.bytes.now ++ weight.entry.bytes.now)))) at self.old self.new result }
     {
-        if figure(place) != k as u64 {
-            return Err(Fault::new(Layer::Frames, Cause::Frame, at));
-        }
+        check_place(place, k, at)?;
         self.contents.readings[k] = Reading {
-            minute: unsigned(minute),
-            crude: unsigned(crude),
-            weight: unsigned(weight),
+            minute: minute.unsigned(),
+            crude: crude.unsigned(),
+            weight: weight.unsigned(),
         };
         self.advance();
         Ok(())
     }
 
-    fn keep_entry(&mut self, k: usize, place: &[u8], value: &[u8], at: usize) -> Result<(), Fault>
-        requires stage { self.old.stage ≡ AtEntry k }
-        requires running { Running self.old }
-        requires fields { Field 4 place.now × Field 4 value.now }
-        ensures { LineStepped (48 ∷ 51 ∷ (place.now ++ value.now)) at self.old self.new result }
+    fn keep_entry(
+        &mut self,
+        k: usize,
+        place: Digits<'_, 4>,
+        value: Digits<'_, 4>,
+        at: usize,
+    ) -> Result<(), Fault>
+        requires { self.old.stage ≡ AtEntry k }
+        ensures { LineStepped (48 ∷ 51 ∷ (place.entry.bytes.now ++ value.entry.bytes.now)) at self.old self.new result }
     {
-        if figure(place) != k as u64 {
-            return Err(Fault::new(Layer::Frames, Cause::Frame, at));
-        }
-        self.contents.entries[k] = unsigned(value);
+        check_place(place, k, at)?;
+        self.contents.entries[k] = value.unsigned();
         self.advance();
         Ok(())
     }
@@ -132,31 +144,30 @@ impl Machine {
     fn keep_multiplier(
         &mut self,
         k: usize,
-        place: &[u8],
-        value: &[u8],
+        place: Digits<'_, 4>,
+        value: Digits<'_, 8>,
         at: usize,
     ) -> Result<(), Fault>
-        requires stage { self.old.stage ≡ AtMultiplier k }
-        requires running { Running self.old }
-        requires fields { Field 4 place.now × Field 8 value.now }
-        ensures { LineStepped (48 ∷ 52 ∷ (place.now ++ value.now)) at self.old self.new result }
+        requires { self.old.stage ≡ AtMultiplier k }
+        ensures { LineStepped (48 ∷ 52 ∷ (place.entry.bytes.now ++ value.entry.bytes.now)) at self.old self.new result }
     {
-        if figure(place) != k as u64 {
-            return Err(Fault::new(Layer::Frames, Cause::Frame, at));
-        }
-        self.contents.multipliers[k] = short_signed(value);
+        check_place(place, k, at)?;
+        self.contents.multipliers[k] = value.short_signed();
         self.advance();
         Ok(())
     }
 
-    fn keep_end(&mut self, cost: &[u8], floor: &[u8], at: usize) -> Result<(), Fault>
-        requires stage { self.old.stage ≡ AtEnd }
-        requires running { Running self.old }
-        requires fields { Field 16 cost.now × Field 16 floor.now }
-        ensures { LineStepped (70 ∷ 70 ∷ (cost.now ++ floor.now)) at self.old self.new result }
+    fn keep_end(
+        &mut self,
+        cost: Digits<'_, 16>,
+        floor: Digits<'_, 16>,
+        at: usize,
+    ) -> Result<(), Fault>
+        requires { self.old.stage ≡ AtEnd }
+        ensures { LineStepped (70 ∷ 70 ∷ (cost.entry.bytes.now ++ floor.entry.bytes.now)) at self.old self.new result }
     {
-        self.contents.cost = figure(cost);
-        self.contents.floor = long_signed(floor);
+        self.contents.cost = cost.figure();
+        self.contents.floor = floor.long_signed();
         self.advance();
         Ok(())
     }
@@ -168,15 +179,14 @@ impl Machine {
         fields: HeadFields<'_>,
         at: usize,
     ) -> Result<(), Fault>
-        requires { HeadShaped fields }
         ensures { HeadStepped wanted (frame_text (HeadFrame fields.entry)) at self.new result }
     {
         let head = head_of(fields);
-        let count = check_head(wanted, figure(fields.edition), head, at)?;
+        let count = check_head(wanted, fields.edition.figure(), head, at)?;
         self.contents.head = head;
         self.contents.count = count;
         self.taken = 0;
-        self.stage = awaited(head.readings as usize, count, 0);
+        self.stage = awaited(&self.contents, 0);
         Ok(())
     }
 
@@ -187,8 +197,6 @@ impl Machine {
         frame: Frame<'_>,
         at: usize,
     ) -> Result<(), Fault>
-        requires shaped { Shaped frame }
-        requires steady { Steady self.old }
         ensures { Stepped wanted (frame_text frame.entry) at self.old self.new result }
     {
         match (self.stage, frame) {
@@ -209,43 +217,7 @@ impl Machine {
                 self.keep_multiplier(k, place, value, at)
             }
             (Stage::End, Frame::End { cost, floor }) => self.keep_end(cost, floor, at),
-            (
-                Stage::Head,
-                Frame::Reading { .. }
-                | Frame::Entry { .. }
-                | Frame::Multiplier { .. }
-                | Frame::End { .. },
-            ) => Err(Fault::new(Layer::Frames, Cause::Frame, at)),
-            (
-                Stage::Reading(_),
-                Frame::Head(_) | Frame::Entry { .. } | Frame::Multiplier { .. } | Frame::End { .. },
-            ) => Err(Fault::new(Layer::Frames, Cause::Frame, at)),
-            (
-                Stage::Entry(_),
-                Frame::Head(_)
-                | Frame::Reading { .. }
-                | Frame::Multiplier { .. }
-                | Frame::End { .. },
-            ) => Err(Fault::new(Layer::Frames, Cause::Frame, at)),
-            (
-                Stage::Multiplier(_),
-                Frame::Head(_) | Frame::Reading { .. } | Frame::Entry { .. } | Frame::End { .. },
-            ) => Err(Fault::new(Layer::Frames, Cause::Frame, at)),
-            (
-                Stage::End,
-                Frame::Head(_)
-                | Frame::Reading { .. }
-                | Frame::Entry { .. }
-                | Frame::Multiplier { .. },
-            ) => Err(Fault::new(Layer::Frames, Cause::Frame, at)),
-            (
-                Stage::Nothing,
-                Frame::Head(_)
-                | Frame::Reading { .. }
-                | Frame::Entry { .. }
-                | Frame::Multiplier { .. }
-                | Frame::End { .. },
-            ) => Err(Fault::new(Layer::Frames, Cause::Frame, at)),
+            _ => Err(Fault::new(Layer::Frames, Cause::Frame, at)),
         }
     }
 }

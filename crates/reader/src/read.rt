@@ -16,23 +16,15 @@ fn read_frames(file: &[u8], wanted: Option<Wanted>) -> Result<Contents, Fault>
     requires { Whole file.now }
     ensures { FramesRead wanted file.now result }
 {
-    let mut lines = Lines {
-        rest: file,
-        taken: 0,
-    };
+    let mut lines = Lines::of_good(file);
     let mut machine = Machine::new();
-    // in good lines all bytes are known
-    while let Some(line) = lines.next_line(true)? {
+    while let Some(line) = lines.next_line()? {
         let frame = read_frame(line, lines.taken)?;
         machine.step(wanted, frame, lines.taken)?;
     }
     match machine.stage {
         Stage::Nothing => Ok(machine.contents),
-        Stage::Head => Err(Fault::new(Layer::Frames, Cause::Frame, lines.taken + 1)),
-        Stage::Reading(_) => Err(Fault::new(Layer::Frames, Cause::Frame, lines.taken + 1)),
-        Stage::Entry(_) => Err(Fault::new(Layer::Frames, Cause::Frame, lines.taken + 1)),
-        Stage::Multiplier(_) => Err(Fault::new(Layer::Frames, Cause::Frame, lines.taken + 1)),
-        Stage::End => Err(Fault::new(Layer::Frames, Cause::Frame, lines.taken + 1)),
+        _ => Err(Fault::new(Layer::Frames, Cause::Frame, lines.taken + 1)),
     }
 }
 

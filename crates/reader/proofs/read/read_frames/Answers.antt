@@ -1,18 +1,18 @@
-use Rattle.std.proofs.Common.{Ok, Err, sym, ap, ◌∙◌, subst, arith, rules}
+use Rattle.std.proofs.Common.{Ok, Err, sym, ap, ◌∙◌, subst, rules}
 use Rattle.std.proofs.lemmas.Result.{err_from_is_err_and}
 use Rattle.kinds.specs.declared.refusal.Cause.TheVariants.{Frame}
 use Rattle.reader.specs.declared.fault.Layer.TheVariants as layer
 use Rattle.reader.specs.Faults.{fault}
-use Rattle.reader.specs.Frames.{InTurn, size}
+use Rattle.reader.specs.Frames.{InTurn}
 use Rattle.reader.specs.Lines.{pieces}
 use Rattle.reader.specs.Shapes.{frame_text}
 use Rattle.reader.specs.Steps.{Stepped}
-use Rattle.reader.proofs.Cuts.{whole_known, upto_broken, upto_none}
+use Rattle.reader.proofs.Cuts.{upto_broken, upto_none}
 use Rattle.reader.proofs.Order.{Reached, turned, odd, refused, taken, missing, finished, long_fits}
 use Rattle.reader.proofs.read.read_frames.Goals as goal
 
 pub loop-line-init : goal.loop-line-init
-loop-line-init c = (upto_none c.args.file.now, search rules, whole_known c.args.file.now c.requires)
+loop-line-init c = (rw (c.of_good-lines.ensures.rest, c.of_good-lines.ensures.taken) (upto_none c.args.file.now), search rules)
 
 pub returns-in_err-line : goal.returns-in_err-line
 returns-in_err-line c =
@@ -40,9 +40,8 @@ loop-line-preserved c =
     let f = c.in_ok-frame.ensures in (
       t.upto,
       subst (λ n. Reached c.args.wanted ls n c.step.new.self) (sym t.counts)
-          (taken c.args.wanted ls c.loop-line.lines.taken c.loop-line.machine c.step.new.self (frame_text c.in_ok-frame.frame) (t.here ∙ f.0) c.loop-line.invariant.1
+          (taken c.args.wanted ls c.loop-line.lines.taken c.loop-line.machine c.step.new.self (frame_text c.in_ok-frame.frame) (t.here ∙ f) c.loop-line.invariant.1
           (subst (λ n. Stepped c.args.wanted (frame_text c.in_ok-frame.frame) n c.loop-line.machine c.step.new.self (Ok tt)) t.counts c.in_ok-step.ensures)),
-      t.known c.loop-line.invariant.2,
     )
 
 pub returns-in_err-step : goal.returns-in_err-step
@@ -52,7 +51,7 @@ returns-in_err-step c =
     let f = c.in_ok-frame.ensures in
     let p = err_from_is_err_and c.from_residual-in_err-step.result c.from_residual-in_err-step.ensures.1 in
     rw (p.1, p.2)
-    (refused c.args.wanted ls c.loop-line.lines.taken c.loop-line.machine c.step.new.self (frame_text c.in_ok-frame.frame) (t.here ∙ f.0) c.loop-line.invariant.1 _
+    (refused c.args.wanted ls c.loop-line.lines.taken c.loop-line.machine c.step.new.self (frame_text c.in_ok-frame.frame) (t.here ∙ f) c.loop-line.invariant.1 _
     (subst (λ n. Stepped c.args.wanted (frame_text c.in_ok-frame.frame) n c.loop-line.machine c.step.new.self (Err c.in_err-step.field-0.0)) t.counts c.in_err-step.ensures))
 
 pub returns-in-Nothing : goal.returns-in-Nothing
@@ -60,27 +59,7 @@ returns-in-Nothing c =
     let x = c.loop-line.machine.contents in
     finished c.args.wanted c.args.file.now c.loop-line.lines c.next_line.new.self c.in_ok-line.field-0 c.loop-line.machine c.loop-line.invariant.0 c.in_ok-line.ensures c.in_default.is c.loop-line.invariant.1 c.in-Nothing.is x.cost_fits (long_fits x.floor x.floor_fits)
 
-pub returns-in-Head : goal.returns-in-Head
-returns-in-Head c =
+pub returns-in_default-stage : goal.returns-in_default-stage
+returns-in_default-stage c =
     missing c.args.wanted c.args.file.now c.loop-line.lines c.next_line.new.self c.in_ok-line.field-0 c.loop-line.machine _ c.loop-line.invariant.0 c.in_ok-line.ensures c.in_default.is c.loop-line.invariant.1
-    (λ o. omega (arith, o.sized, ap size c.in-Head.is)) c.new.ensures
-
-pub returns-in-Reading : goal.returns-in-Reading
-returns-in-Reading c =
-    missing c.args.wanted c.args.file.now c.loop-line.lines c.next_line.new.self c.in_ok-line.field-0 c.loop-line.machine _ c.loop-line.invariant.0 c.in_ok-line.ensures c.in_default.is c.loop-line.invariant.1
-    (λ o. omega (arith, o.sized, ap size c.in-Reading.is)) c.new-in-Reading.ensures
-
-pub returns-in-Entry : goal.returns-in-Entry
-returns-in-Entry c =
-    missing c.args.wanted c.args.file.now c.loop-line.lines c.next_line.new.self c.in_ok-line.field-0 c.loop-line.machine _ c.loop-line.invariant.0 c.in_ok-line.ensures c.in_default.is c.loop-line.invariant.1
-    (λ o. omega (arith, o.sized, ap size c.in-Entry.is)) c.new-in-Entry.ensures
-
-pub returns-in-Multiplier : goal.returns-in-Multiplier
-returns-in-Multiplier c =
-    missing c.args.wanted c.args.file.now c.loop-line.lines c.next_line.new.self c.in_ok-line.field-0 c.loop-line.machine _ c.loop-line.invariant.0 c.in_ok-line.ensures c.in_default.is c.loop-line.invariant.1
-    (λ o. omega (arith, o.sized, ap size c.in-Multiplier.is)) c.new-in-Multiplier.ensures
-
-pub returns-in-End : goal.returns-in-End
-returns-in-End c =
-    missing c.args.wanted c.args.file.now c.loop-line.lines c.next_line.new.self c.in_ok-line.field-0 c.loop-line.machine _ c.loop-line.invariant.0 c.in_ok-line.ensures c.in_default.is c.loop-line.invariant.1
-    (λ o. omega (arith, o.sized, ap size c.in-End.is)) c.new-in-End.ensures
+    c.in_default-stage.not-Nothing c.new.ensures

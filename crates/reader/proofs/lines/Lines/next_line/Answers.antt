@@ -1,18 +1,14 @@
 use Rattle.std.proofs.Common.{◌<◌, length, refl, arith}
-use Rattle.std.proofs.lemmas.List.{nil_from_length}
 use Rattle.reader.proofs.Cuts.{start_open, start_other, start_sized, start_good}
 use Rattle.reader.proofs.lines.Lines.next_line.Goals as goal
 use Rattle.reader.proofs.lines.Lines.next_line.Goals.{then-end-self-via-then-end-self, then-end-self-via-else-end-self+then-self-end-ne10, then-end-self-via-else-end-self+else-self-end-ne10+then-end-lt2, then-end-self-via-else-end-self+else-self-end-ne10+else-end-lt2+then-end-gt60}
-
-pub returns-then-self-eq0 : goal.returns-then-self-eq0
-returns-then-self-eq0 c = (nil_from_length _ c.if-self-eq0.true, refl)
 
 pub returns-then-end-self : goal.returns-then-end-self
 returns-then-end-self c =
     let s = c.args.self.now.rest.now in
     let e = c.leading_digits-end.result in
     let found = c.leading_digits-end.ensures in
-    let some : 0 < length s = omega arith in (
+    let some : 0 < length s = grind arith in (
       c.new.ensures,
       elim c.then-end-self.branch [
         | then-end-self-via-then-end-self w ↦ start_open s e found.within found.digits w.if-end-self.true some

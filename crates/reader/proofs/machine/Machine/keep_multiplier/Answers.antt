@@ -1,18 +1,22 @@
-use Rattle.std.proofs.Common.{◌∷◌, ◌++◌, set, sym, ap, ◌∙◌, subst, arith, w32, w64, SFits, of_z, rules}
+use Rattle.std.proofs.Common.{◌∷◌, ◌++◌, set, ap, ◌∙◌, subst, arith, w32, w64, SFits, of_z, rules}
 use Rattle.std.proofs.lemmas.Int.{to_z-of_z}
+use Rattle.std.proofs.lemmas.Result.{err_from_is_err_and}
 use Rattle.archive.specs.File.{multiplier_text}
 use Rattle.reader.specs.declared.stage.Stage.TheVariants.{Multiplier}
 use Rattle.reader.specs.Frames.{InTurn}
-use Rattle.reader.proofs.Keeping.{SameHead, at_multiplier, other_place, at_place, written, put_multiplier, kept}
+use Rattle.reader.proofs.Keeping.{SameHead, at_multiplier, other_place, written, put_multiplier, kept}
 use Rattle.reader.proofs.machine.Machine.keep_multiplier.Goals as goal
 
-pub returns-then-figure-k : goal.returns-then-figure-k
-returns-then-figure-k c =
+pub returns-in_err-check_place : goal.returns-in_err-check_place
+returns-in_err-check_place c =
     let m = c.args.self.now in
-    let at = at_multiplier m.contents.head.readings m.contents.count m.taken c.args.k (sym c.requires.stage ∙ c.requires.running.waits) in (
-      c.new.ensures,
-      λ o. other_place 48 52 c.args.k c.figure.result c.args.place.now c.args.value.now c.requires.fields.0 c.figure.ensures (omega (arith, at.1, m.contents.fewer)) c.if-figure-k.true
-          (subst (λ s. InTurn s (48 ∷ 52 ∷ (c.args.place.now ++ c.args.value.now))) c.requires.stage o).leads,
+    let at = at_multiplier m c.args.k c.requires in
+    let p = err_from_is_err_and c.from_residual.result c.from_residual.ensures.1 in
+    let h = c.in_err-check_place.ensures in
+    rw (p.1, p.2) (
+      h.0,
+      λ o. other_place 48 52 c.args.k c.args.place.bytes.now c.args.value.bytes.now c.args.place.sized (omega (arith, at.1, m.contents.fewer)) h.1
+          (subst (λ s. InTurn s (48 ∷ 52 ∷ (c.args.place.bytes.now ++ c.args.value.bytes.now))) c.requires o).leads,
     )
 
 pub returns : goal.returns
@@ -21,13 +25,12 @@ returns c =
     let m = c.args.self.now in
     let m' = c.advance.new.self in
     let e = c.advance.ensures.contents in
-    let at = at_multiplier m.contents.head.readings m.contents.count m.taken c.args.k (sym c.requires.stage ∙ c.requires.running.waits) in
-    let f = c.requires.fields in
+    let at = at_multiplier m c.args.k c.requires in
     let fits : SFits w64 c.short_signed.result = search rules in
-    let one = at_place c.args.place.now c.figure.result c.args.k f.0 c.figure.ensures c.if-figure-k.false in
-    let two = written 8 c.args.value.now (of_z w32 c.short_signed.result) f.1 c.short_signed.ensures.value in
+    let one = written 4 c.args.place.bytes.now c.args.k c.args.place.sized c.in_ok-check_place.ensures in
+    let two = written 8 c.args.value.bytes.now (of_z w32 c.short_signed.result) c.args.value.sized c.short_signed.ensures.value in
     let h : SameHead m.contents m'.contents = record { head = ap (λ x. x.head) e; count = ap (λ x. x.count) e } in
-    kept _ m m' (Multiplier c.args.k) c.requires.stage h
+    kept _ m m' (Multiplier c.args.k) c.requires h
     (put_multiplier m.contents m'.contents h c.args.k _ c.short_signed.result (ap (λ x. x.readings) e) (ap (λ x. x.entries) e) (ap (λ x. x.multipliers) e ∙ ap (set m.contents.multipliers c.args.k) (to_z-of_z w64 c.short_signed.result fits))
     (ap (λ x. x.cost) e, ap (λ x. x.floor) e)
     at.1 (omega (arith, at.1, m.contents.fewer, m.contents.places.2)) (rw (one, two)) c.short_signed.ensures.fits)
