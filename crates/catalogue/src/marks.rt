@@ -1,21 +1,18 @@
 // The marks of three kinds, and the judge under the kinds that have them.
-ghost use Rattle.std.specs.Prelude.{◌≤◌, length, slice_range, MatchOption};
+ghost use Rattle.std.specs.Prelude.{◌≤◌, length, slice_range, MatchResult};
 ghost use Rattle.digits.specs.Fields.{Reads};
-ghost use Rattle.known.specs.Known.{roughness_meaning, penalty_meaning};
-ghost use Rattle.objective.specs.Objective.{KindsMeaning, three};
+ghost use Rattle.objective.specs.Objective.{KindsMeaning};
 ghost use Rattle.catalogue.specs.Judged.{Marked, Stands, Judged};
 
 use digits::read_field;
-use known::penalty::KnownPenalty;
-use known::roughness_kind::KnownRoughness;
-use objective::trio::Kinds;
+use known::mark::UnknownMark;
+use known::trio::KnownKinds;
+use objective::trio::{Kinds, Meant};
 use reader::contents::Contents;
 use reader::fault::Fault;
 use reader::read::read_file;
 use std::ops::Range;
 use verdict::judge::judge;
-
-type KnownKinds = Kinds<KnownRoughness, KnownPenalty, KnownPenalty>;
 
 // Any numbers can be marks; whether a known kind has them, the judge asks.
 #[derive(Clone, Copy, PartialEq, Eq, Debug)]
@@ -54,17 +51,14 @@ impl Marks {
         })
     }
 
-    // The known kinds that have the marks, none where one of the marks is no known kind's.
-    fn kinds(self) -> Option<KnownKinds>
-        ensures { MatchOption result ((k : KindsMeaning) → Marked self k → ⊥) (λ k. Marked self (three (roughness_meaning k.roughness) (penalty_meaning k.misfit) (penalty_meaning k.bend))) }
+    // The known kinds that have the marks.
+    fn kinds(self) -> Result<KnownKinds, UnknownMark>
+        ensures { MatchResult result (λ k. Marked self (⟦<KnownKinds as Meant>⟧.meaning k)) (λ _. (k : KindsMeaning) → Marked self k → ⊥) }
     {
-        let roughness = KnownRoughness::from_mark(self.roughness)?;
-        let misfit = KnownPenalty::from_mark(self.misfit)?;
-        let bend = KnownPenalty::from_mark(self.bend)?;
-        Some(Kinds {
-            roughness,
-            misfit,
-            bend,
+        Ok(Kinds {
+            roughness: self.roughness.try_into()?,
+            misfit: self.misfit.try_into()?,
+            bend: self.bend.try_into()?,
         })
     }
 }
@@ -75,7 +69,7 @@ pub fn judge_marks(marks: Marks, file: &[u8]) -> Result<Contents, Fault>
     ensures { Judged marks file.now result }
 {
     match marks.kinds() {
-        Some(kinds) => judge(&kinds, file),
-        None => read_file(file, None),
+        Ok(kinds) => judge(&kinds, file),
+        Err(_) => read_file(file, None),
     }
 }
