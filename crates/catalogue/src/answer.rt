@@ -93,9 +93,9 @@ fn refused_line(fault: &Fault) -> AnswerLine
 {
     AnswerLine::new()
         .with(b"EE")
-        .with_field::<2>(u8::from(fault.layer) as u64)
-        .with_field::<2>(u8::from(fault.cause) as u64)
-        .with_field::<4>(fault.line as u64)
+        .with_field::<2>(u8::from(fault.layer).into())
+        .with_field::<2>(u8::from(fault.cause).into())
+        .with_field::<4>(fault.line.into())
         .with(b"\n")
 }
 
