@@ -16,6 +16,7 @@ use Rattle.reader.specs.Readable.{figures_of, Unreadable}
 use Rattle.reader.specs.Readable.Unreadable.{in_lines, in_frames}
 use Rattle.verdict.specs.Verdicts.{Faulty, Judges}
 use Rattle.verdict.specs.Verdicts.Faulty.{steep, unreadable, wrong}
+use Rattle.catalogue.specs.declared.marks.Marks.{Marks}
 use Rattle.catalogue.specs.Judged.{TurnedDown, Judged, head_of}
 use Rattle.catalogue.specs.Judged.Judged.{known, unknown}
 use Rattle.catalogue.proofs.Heads.{filed_head}
@@ -48,6 +49,6 @@ module _ (bs : List ℕ) (none : (e : ℕ) (h : Head) → HeadIs (head_of bs) e 
       let l = j.found in
       record { at = l.at; cause = l.cause; has = unread k fine l.has; is = l.is; before = λ q c u. l.before q c (unreadable (any_marks u)) }
 
-  pub headless_down : {r m b : ℕ} (a : Result Contents Fault) → Judged r m b bs a → TurnedDown bs a
+  pub headless_down : {m : Marks} (a : Result Contents Fault) → Judged m bs a → TurnedDown bs a
   headless_down a (known k at all) = down k a (not_steep at) (all k at)
   headless_down a (unknown not is) = is

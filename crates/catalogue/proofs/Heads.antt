@@ -1,7 +1,7 @@
 -- The first line of a file, and the marks that stand in it.
 --     front           line 1 is what a file begins with
 --     filed_head      line 1 of a file of figures is their head
---     parts           the marks of a head stand at their places
+--     parts           the marks of a head stand at their places, and the file goes on behind them
 use Rattle.std.proofs.Common.{◌≡◌, ℕ, ◌≤◌, true, false, cond, eqb, List, [], ◌∷◌, ◌++◌, length, get_or, take, drop, sym, refl, ap, ◌∙◌, subst, append_assoc, arith}
 use Rattle.std.proofs.lemmas.List.{length-append, take-append-drop, take_at, drop_at}
 use Rattle.std.proofs.ByRecursion.{All-append}
@@ -70,14 +70,15 @@ starts bs l e =
     let t : take (length l) bs ≡ l = subst (λ x. take (length x) bs ≡ x) e (front bs) in
     sym (take-append-drop (length l) bs) ∙ ap (λ x. x ++ drop (length l) bs) t
 
-pub long : (bs l : List ℕ) → head_of bs ≡ l → length l ≤ length bs
+long : (bs l : List ℕ) → head_of bs ≡ l → length l ≤ length bs
 long bs l e = omega (arith, simp length-append at (ap length (starts bs l e)))
 
-pub head_length : (e : ℕ) (h : Head) → length (head_text e h) ≡ 48
+head_length : (e : ℕ) (h : Head) → length (head_text e h) ≡ 48
 unfolding head_text
 head_length e h = simp (length-append, field_length)
 
 pub record Parts (bs : List ℕ) (h : Head) : Type 0 where
+  pub long : 48 ≤ length bs
   pub roughness : take 4 (drop 4 bs) ≡ field 4 h.roughness
   pub misfit : take 6 (drop 8 bs) ≡ field 6 h.misfit
   pub bend : take 6 (drop 14 bs) ≡ field 6 h.bend
@@ -118,6 +119,7 @@ parts bs e h is =
     let stand = standing e h.roughness h.misfit h.bend ((field 4 h.readings ++ (field 4 h.stiffness ++ (field 4 h.denominator ++ field 16 h.allowance))) ++ drop (length (head_text e h)) bs) in
     let fit = marks_fit h is.fitting in
     record {
+      long = omega (arith, long bs (head_text e h) is.text, head_length e h);
       roughness = ap (λ x. take 4 (drop 4 x)) whole ∙ stand.0;
       misfit = ap (λ x. take 6 (drop 8 x)) whole ∙ stand.1;
       bend = ap (λ x. take 6 (drop 14 x)) whole ∙ stand.2;

@@ -16,6 +16,7 @@ use Rattle.archive.specs.File.{line}
 use Rattle.reader.specs.declared.contents.Contents.{Contents}
 use Rattle.reader.specs.declared.fault.Fault.{Fault}
 use Rattle.reader.specs.Faults.{layer_number}
+use Rattle.catalogue.specs.declared.marks.Marks.{Marks}
 use Rattle.catalogue.specs.Judged.{Judged, JudgedByHead}
 
 abbrev pub accepted_text : Contents → List ℕ
@@ -41,8 +42,7 @@ abbrev pub packed : Result Contents Fault → ℕ
 packed (Ok c) = 0
 packed (Err f) = layer_number f.layer * 2 ^ 24 + number_of f.cause * 2 ^ 16 + f.line
 
--- of the marks of roughness, misfit and bend, the file and the number
-pub record Tells (r m b : ℕ) (bs : List ℕ) (n : ℕ) : Type 0 where
+pub record Tells (m : Marks) (bs : List ℕ) (n : ℕ) : Type 0 where
   pub answer : Result Contents Fault
-  pub judged : Judged r m b bs answer
+  pub judged : Judged m bs answer
   pub is : n ≡ packed answer

@@ -2,27 +2,26 @@
 ghost use Rattle.std.specs.Prelude.{◌≡◌};
 ghost use Rattle.catalogue.specs.Told.{packed, Tells};
 
-use crate::marks::judge_marks;
+use crate::marks::{Marks, judge_marks};
 use reader::contents::Contents;
 use reader::fault::Fault;
 
-// The answer in one number: 0, or layer, number and line of the fault.
+// The answer in one number: 0, or the bytes of a fault: its layer, its number and the two of its line.
 fn pack(answer: &Result<Contents, Fault>) -> u32
     ensures { result ≡ packed answer.now }
 {
     match answer {
         Ok(_) => 0,
         Err(fault) => {
-            let layer = u8::from(fault.layer) as u32;
-            let number = u8::from(fault.cause) as u32;
-            layer * 0x100_0000 + number * 0x1_0000 + fault.line as u32
+            let [high, low] = fault.line.to_be_bytes();
+            u32::from_be_bytes([fault.layer.into(), fault.cause.into(), high, low])
         }
     }
 }
 
 // What `judge_marks` answers, in one number.
-pub fn judge_packed(roughness: u32, misfit: u32, bend: u32, file: &[u8]) -> u32
-    ensures { Tells roughness misfit bend file.now result }
+pub fn judge_packed(marks: Marks, file: &[u8]) -> u32
+    ensures { Tells marks file.now result }
 {
-    pack(&judge_marks(roughness as u64, misfit as u64, bend as u64, file))
+    pack(&judge_marks(marks, file))
 }

@@ -1,39 +1,74 @@
-// Judges a file under the kinds that three marks name.
-ghost use Rattle.std.specs.Result.{MatchResult};
-ghost use Rattle.known.specs.Known.{roughness_meaning, penalty_meaning};
-ghost use Rattle.objective.specs.Objective.{KindsMeaning, three};
-ghost use Rattle.catalogue.specs.Judged.{Marked, Judged};
+// The marks of three kinds, and the judge under the kinds that have them.
+ghost use Rattle.std.specs.Prelude.{◌≤◌, length, slice_range, MatchResult};
+ghost use Rattle.digits.specs.Fields.{Reads};
+ghost use Rattle.objective.specs.Objective.{KindsMeaning};
+ghost use Rattle.catalogue.specs.Judged.{Marked, Stands, Judged};
 
+use digits::read_field;
 use known::mark::UnknownMark;
-use known::penalty::KnownPenalty;
-use known::roughness_kind::KnownRoughness;
 use known::trio::KnownKinds;
-use objective::trio::Kinds;
+use objective::trio::{Kinds, Meant};
 use reader::contents::Contents;
 use reader::fault::Fault;
 use reader::read::read_file;
+use std::ops::Range;
 use verdict::judge::judge;
 
-// The known kinds of three marks.
-fn kinds_of(roughness: u64, misfit: u64, bend: u64) -> Result<KnownKinds, UnknownMark>
-    ensures { MatchResult result (λ k. Marked roughness misfit bend (three (roughness_meaning k.roughness) (penalty_meaning k.misfit) (penalty_meaning k.bend))) (λ _. (k : KindsMeaning) → Marked roughness misfit bend k → ⊥) }
+// Any numbers can be marks; whether a known kind has them, the judge asks.
+#[derive(Clone, Copy, PartialEq, Eq, Debug)]
+pub struct Marks {
+    pub roughness: u64,
+    pub misfit: u64,
+    pub bend: u64,
+}
+
+// The three marks stand behind the head's number and the edition, one after the other.
+const ROUGHNESS: Range<usize> = 4..8;
+
+const MISFIT: Range<usize> = 8..14;
+
+const BEND: Range<usize> = 14..20;
+
+// The number that stands at a place of a file, none where no number does.
+fn number_at(file: &[u8], place: Range<usize>) -> Option<u64>
+    ensures { place.start ≤ place.end → place.end ≤ length file.now → Reads (slice_range file.now place.start place.end) result }
 {
-    let roughness = KnownRoughness::try_from(roughness)?;
-    let misfit = KnownPenalty::try_from(misfit)?;
-    let bend = KnownPenalty::try_from(bend)?;
-    Ok(Kinds {
-        roughness,
-        misfit,
-        bend,
-    })
+    read_field(file.get(place)?)
+}
+
+impl Marks {
+    // The marks in the first line of a file, none where no number stands there.
+    pub(crate) fn in_head(file: &[u8]) -> Option<Marks>
+        ensures { Stands file.now result }
+    {
+        let roughness = number_at(file, ROUGHNESS)?;
+        let misfit = number_at(file, MISFIT)?;
+        let bend = number_at(file, BEND)?;
+        Some(Marks {
+            roughness,
+            misfit,
+            bend,
+        })
+    }
+
+    // The known kinds that have the marks.
+    fn kinds(self) -> Result<KnownKinds, UnknownMark>
+        ensures { MatchResult result (λ k. Marked self (⟦<KnownKinds as Meant>⟧.meaning k)) (λ _. (k : KindsMeaning) → Marked self k → ⊥) }
+    {
+        Ok(Kinds {
+            roughness: self.roughness.try_into()?,
+            misfit: self.misfit.try_into()?,
+            bend: self.bend.try_into()?,
+        })
+    }
 }
 
 // What the file carries, or the fault for which it is turned down. Where no known kinds have the marks, no file is
 // accepted: its head then has a wrong mark, if nothing else is wrong before that.
-pub fn judge_marks(roughness: u64, misfit: u64, bend: u64, file: &[u8]) -> Result<Contents, Fault>
-    ensures { Judged roughness misfit bend file.now result }
+pub fn judge_marks(marks: Marks, file: &[u8]) -> Result<Contents, Fault>
+    ensures { Judged marks file.now result }
 {
-    match kinds_of(roughness, misfit, bend) {
+    match marks.kinds() {
         Ok(kinds) => judge(&kinds, file),
         Err(_) => read_file(file, None),
     }

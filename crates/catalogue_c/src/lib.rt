@@ -4,11 +4,17 @@
 ghost use Rattle.catalogue.specs.Told.{Tells};
 
 use catalogue::c::judge_packed;
+use catalogue::marks::Marks;
 
 // What the judge answers about a file under three marks, in one number.
 #[unsafe(no_mangle)]
 pub extern "C" fn sablecobalt_judge(roughness: u32, misfit: u32, bend: u32, file: &[u8]) -> u32
-    ensures { Tells roughness misfit bend file.now result }
+    ensures { Tells (record { roughness = roughness; misfit = misfit; bend = bend }) file.now result }
 {
-    judge_packed(roughness, misfit, bend, file)
+    let marks = Marks {
+        roughness: roughness.into(),
+        misfit: misfit.into(),
+        bend: bend.into(),
+    };
+    judge_packed(marks, file)
 }

@@ -1,5 +1,5 @@
 -- From the answers of the weighing calls to faults, and to lawful figures.
-use Rattle.std.proofs.Common.{◌≡◌, ℕ, ◌+◌, ◌-◌, ◌<◌, ◌&&◌, eqb, ltb, leb, ◌⊎◌, List, length, take, ℤ, pos, Some, None, Option, Result, sym, refl, ap, ◌∙◌, subst, ap₂, inl, inr, ⊎_elim, arith, w64, to_z}
+use Rattle.std.proofs.Common.{◌≡◌, ℕ, ◌+◌, ◌-◌, ◌<◌, ◌&&◌, eqb, ltb, leb, ◌⊎◌, List, length, ℤ, pos, Some, None, Option, Result, sym, refl, ap, ◌∙◌, subst, ap₂, inl, inr, ⊎_elim, arith, w64, to_z}
 use Rattle.kinds.specs.declared.reading.Reading.{Reading}
 use Rattle.kinds.specs.declared.refusal.Cause.{Cause}
 use Rattle.kinds.specs.declared.refusal.Cause.TheVariants.{Length, Short, Value, Denominator, Multiplier, Column}
@@ -56,9 +56,9 @@ clear_passed k law g before e =
     clear_columns k g (clear_multipliers k g before f.slopes) (columns_long k law g.head.stiffness g.readings g.head.denominator g.multipliers f) (nothing_located Column _ both.1)
 
 -- what the weighing of multipliers promises, of figures
-pub multipliers_weighed : (k : KindsMeaning) (c : Contents) (before after : List ℤ) (r : Result ℤ Refusal) → head_no c.head ≡ None → WeighsMultipliers k (to_z w64 c.head.stiffness) (take (c.head.readings - 0) c.readings) (to_z w64 c.head.denominator) (take (c.count - 0) c.multipliers) before after r → WeighsMultipliers k (pos c.head.stiffness) (figures_of c).readings (pos c.head.denominator) (figures_of c).multipliers before after r
-multipliers_weighed k c before after r e =
-    slopes_handed (λ (h : ℤ) (xs : List Reading) (d : ℤ) (ms : List ℤ). WeighsMultipliers k h xs d ms before after r) c e
+pub multipliers_weighed : (k : KindsMeaning) (c : Contents) {xs : List Reading} {ms : List ℤ} (before after : List ℤ) (r : Result ℤ Refusal) → head_no c.head ≡ None → xs ≡ (figures_of c).readings → ms ≡ (figures_of c).multipliers → WeighsMultipliers k (to_z w64 c.head.stiffness) xs (to_z w64 c.head.denominator) ms before after r → WeighsMultipliers k (pos c.head.stiffness) (figures_of c).readings (pos c.head.denominator) (figures_of c).multipliers before after r
+multipliers_weighed k c before after r =
+    slopes_handed (λ (h : ℤ) (xs : List Reading) (d : ℤ) (ms : List ℤ). WeighsMultipliers k h xs d ms before after r) c
 
 pub floored : (k : KindsMeaning) (g : Figures) (before after : List ℤ) (r : Result ℤ Refusal) → length before ≡ 240 → WeighsMultipliers k (pos g.head.stiffness) g.readings (pos g.head.denominator) g.multipliers before after r → weigh_multipliers_no k (pos g.head.stiffness) g.readings (pos g.head.denominator) g.multipliers (length before) ≡ None → Floored k g (floor_of k g.readings g.multipliers)
 floored k g before after r room w passes =

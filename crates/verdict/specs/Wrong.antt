@@ -1,7 +1,7 @@
 -- The faults of figures that could be read.
 --     minute_before   the minute of the reading before a place, none for the first
 --     end_line        the line of the end, counted from 1
---     lines_of        the first line of each part behind the head
+--     lines_of        the first line of each part
 --     Wrong           the faults of figures under three kinds, at their ranks
 -- Line 1 is the head; then come n readings, n entries, the multipliers and the end.
 use Rattle.std.specs.Prelude.{◌≡◌, ℕ, zero, suc, ◌+◌, ◌<◌, false, ◌&&◌, List, length, get_or, ℤ, pos, neg_ℤ, Some, None, Option, slice_index_or, unsigned_abs}
@@ -26,6 +26,7 @@ end_line g = length g.readings + length g.entries + length g.multipliers + 2
 
 abbrev pub lines_of : Figures → Lines
 lines_of g = record {
+  head = 1;
   readings = 2;
   entries = length g.readings + 2;
   multipliers = length g.readings + length g.entries + 2;

@@ -23,10 +23,7 @@ fn figure_at<T: Copy>(figures: &[T], place: usize) -> Result<T, Refusal>
 pub fn reading(contents: &Contents, place: usize) -> Result<Reading, Refusal>
     ensures { result ≡ figure_at (figures_of contents.now).readings place no_reading }
 {
-    figure_at(
-        &contents.readings[0..contents.head.readings as usize],
-        place,
-    )
+    figure_at(contents.readings(), place)
 }
 
 pub fn entry(contents: &Contents, place: usize) -> Result<i64, Refusal>
@@ -38,5 +35,5 @@ pub fn entry(contents: &Contents, place: usize) -> Result<i64, Refusal>
 pub fn multiplier(contents: &Contents, place: usize) -> Result<i64, Refusal>
     ensures { result ≡ figure_at (figures_of contents.now).multipliers place (pos 0) }
 {
-    figure_at(&contents.multipliers[0..contents.count], place)
+    figure_at(contents.multipliers(), place)
 }

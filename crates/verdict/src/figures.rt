@@ -1,23 +1,23 @@
 // The third layer of the judge: all checks of the figures that were read, and those of the end.
 ghost use Rattle.std.specs.Prelude.{◌≡◌, None, MatchResult};
 ghost use Rattle.objective.specs.Checks.{kinds_no};
-ghost use Rattle.objective.specs.Objective.{three, within};
+ghost use Rattle.objective.specs.Objective.{within};
 ghost use Rattle.reader.specs.Faults.{Least};
 ghost use Rattle.reader.specs.Readable.{figures_of, InForm};
 ghost use Rattle.verdict.specs.Lawful.{wanted_of, Lawful, NearTheBest};
 ghost use Rattle.verdict.specs.Stages.{head_no, EndFine, EndOff};
 ghost use Rattle.verdict.specs.Wrong.{Wrong};
 
-use crate::lines::Lines;
+use crate::lines::{Lines, fault_from};
 use crate::opening::check_given;
 use crate::weighing::{weigh_entries, weigh_slopes};
 use kinds::penalty::Penalty;
 use kinds::refusal::Cause;
 use kinds::roughness::Roughness;
 use objective::gap::gap_between;
-use objective::trio::Kinds;
+use objective::trio::{Kinds, Meant};
 use reader::contents::Contents;
-use reader::fault::{Fault, Layer};
+use reader::fault::Fault;
 
 // Whether the gap of the stated cost and floor is within the allowance.
 fn is_within(contents: &Contents) -> bool
@@ -26,7 +26,7 @@ fn is_within(contents: &Contents) -> bool
 {
     let denominator = contents.head.denominator as i64;
     let allowance = contents.head.allowance as i64;
-    gap_between(contents.cost, contents.floor, denominator, allowance).is_ok_and(|gap| gap.within)
+    gap_between(contents.cost, contents.floor, denominator, allowance).is_ok_and(|gap| gap.within())
 }
 
 // The end, in the last line: cost and floor against those that are stated, then their gap.
@@ -34,12 +34,12 @@ fn check_end(contents: &Contents, cost: u64, floor: i64) -> Result<(), Fault>
     requires { head_no contents.now.head ≡ None }
     ensures { MatchResult result (λ _. EndFine (figures_of contents.now) cost floor) (λ f. EndOff (figures_of contents.now) cost floor f) }
 {
-    let line = Lines::of(contents).end;
+    let end = Lines::of(contents).end;
     if contents.cost != cost || contents.floor != floor {
-        return Err(Fault::new(Layer::Figures, Cause::Stated, line));
+        return Err(fault_from(end, Cause::Stated.into()));
     }
     if !is_within(contents) {
-        return Err(Fault::new(Layer::Figures, Cause::Gap, line));
+        return Err(fault_from(end, Cause::Gap.into()));
     }
     Ok(())
 }
@@ -49,9 +49,9 @@ pub(crate) fn check_figures<R: Roughness, M: Penalty, B: Penalty>(
     kinds: &Kinds<R, M, B>,
     contents: &Contents,
 ) -> Result<(), Fault>
-    requires kinds { kinds_no (three (R.Roughness.meaning kinds.now.roughness) (M.Penalty.meaning kinds.now.misfit) (B.Penalty.meaning kinds.now.bend)) ≡ None }
-    requires form { InForm (wanted_of (three (R.Roughness.meaning kinds.now.roughness) (M.Penalty.meaning kinds.now.misfit) (B.Penalty.meaning kinds.now.bend))) (figures_of contents.now) }
-    ensures { MatchResult result (λ _. Lawful (three (R.Roughness.meaning kinds.now.roughness) (M.Penalty.meaning kinds.now.misfit) (B.Penalty.meaning kinds.now.bend)) (figures_of contents.now) × NearTheBest (three (R.Roughness.meaning kinds.now.roughness) (M.Penalty.meaning kinds.now.misfit) (B.Penalty.meaning kinds.now.bend)) (figures_of contents.now)) (λ f. Least (Wrong (three (R.Roughness.meaning kinds.now.roughness) (M.Penalty.meaning kinds.now.misfit) (B.Penalty.meaning kinds.now.bend)) (figures_of contents.now)) f) }
+    requires kinds { kinds_no (⟦<Kinds<R, M, B> as Meant>⟧.meaning kinds.now) ≡ None }
+    requires form { InForm (wanted_of (⟦<Kinds<R, M, B> as Meant>⟧.meaning kinds.now)) (figures_of contents.now) }
+    ensures { MatchResult result (λ _. Lawful (⟦<Kinds<R, M, B> as Meant>⟧.meaning kinds.now) (figures_of contents.now) × NearTheBest (⟦<Kinds<R, M, B> as Meant>⟧.meaning kinds.now) (figures_of contents.now)) (λ f. Least (Wrong (⟦<Kinds<R, M, B> as Meant>⟧.meaning kinds.now) (figures_of contents.now)) f) }
 {
     check_given(contents)?;
     let cost = weigh_entries(kinds, contents)?;

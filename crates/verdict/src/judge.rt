@@ -1,6 +1,5 @@
 // The judge.
 ghost use Rattle.std.specs.Prelude.{◌≡◌, Some};
-ghost use Rattle.objective.specs.Objective.{three};
 ghost use Rattle.verdict.specs.Lawful.{wanted_of};
 ghost use Rattle.verdict.specs.Verdicts.{Judges};
 
@@ -9,14 +8,14 @@ use crate::lines::fault_from;
 use kinds::penalty::Penalty;
 use kinds::roughness::Roughness;
 use objective::checks::check_kinds;
-use objective::trio::Kinds;
+use objective::trio::{Kinds, Meant};
 use reader::contents::{Contents, Wanted};
-use reader::fault::{Fault, Layer};
+use reader::fault::Fault;
 use reader::read::read_file;
 
 // The marks and the reach that the kinds tell.
 fn wanted_by<R: Roughness, M: Penalty, B: Penalty>(kinds: &Kinds<R, M, B>) -> Wanted
-    ensures { Some result ≡ wanted_of (three (R.Roughness.meaning kinds.now.roughness) (M.Penalty.meaning kinds.now.misfit) (B.Penalty.meaning kinds.now.bend)) }
+    ensures { Some result ≡ wanted_of (⟦<Kinds<R, M, B> as Meant>⟧.meaning kinds.now) }
 {
     Wanted {
         roughness: kinds.roughness.mark(),
@@ -31,7 +30,7 @@ pub fn judge<R: Roughness, M: Penalty, B: Penalty>(
     kinds: &Kinds<R, M, B>,
     file: &[u8],
 ) -> Result<Contents, Fault>
-    ensures { Judges (three (R.Roughness.meaning kinds.now.roughness) (M.Penalty.meaning kinds.now.misfit) (B.Penalty.meaning kinds.now.bend)) file.now result }
+    ensures { Judges (⟦<Kinds<R, M, B> as Meant>⟧.meaning kinds.now) file.now result }
 {
     check_kinds(kinds).map_err(|refusal| fault_from(0, refusal))?;
     let contents = read_file(file, Some(wanted_by(kinds)))?;

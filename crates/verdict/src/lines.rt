@@ -8,9 +8,10 @@ use kinds::refusal::Refusal;
 use reader::contents::Contents;
 use reader::fault::{Fault, Layer};
 
-// The first line of each part that stands behind the head, counted from 1.
+// The first line of each part, counted from 1.
 #[derive(Clone, Copy)]
 pub(crate) struct Lines {
+    pub head: usize,
     pub readings: usize,
     pub entries: usize,
     pub multipliers: usize,
@@ -21,20 +22,22 @@ impl Lines {
     pub(crate) fn of(contents: &Contents) -> Lines
         ensures { result ≡ lines_of (figures_of contents.now) }
     {
-        let count = contents.head.readings as usize;
-        let readings = 2;
-        let entries = readings + count;
-        let multipliers = entries + count;
+        let head = 1;
+        let readings = head + 1;
+        let entries = readings + contents.readings().len();
+        let multipliers = entries + contents.entries().len();
+        let end = multipliers + contents.multipliers().len();
         Lines {
+            head,
             readings,
             entries,
             multipliers,
-            end: multipliers + contents.count,
+            end,
         }
     }
 }
 
-// A refusal as a fault, with its place counted from a line.
+// A refusal of kinds or figures as a fault, with its place counted from a line. The kinds stand in no line.
 pub(crate) fn fault_from(line: usize, refusal: Refusal) -> Fault
     ensures { result ≡ fault Layer.Figures refusal.cause (line + refusal.place) }
 {

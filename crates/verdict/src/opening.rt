@@ -7,37 +7,29 @@ ghost use Rattle.reader.specs.Readable.{figures_of};
 ghost use Rattle.verdict.specs.Stages.{head_no, InOrder};
 ghost use Rattle.verdict.specs.Wrong.{Wrong};
 
-use crate::lines::fault_from;
+use crate::lines::{Lines, fault_from};
 use archive::figures::Head;
 use kinds::refusal::{Cause, Refusal};
-use objective::checks::check_readings;
+use objective::checks::{check_readings, check_settings};
 use reader::contents::Contents;
 use reader::fault::Fault;
 
-// A stiffness of 1 to 1,000 and an allowance of at most 10^12; then a denominator of 1 to 1,000.
+// The settings, then the denominator. A figure of 2^63 or more is below 0 as a signed number, and refused as well.
 fn check_head(head: &Head) -> Result<(), Refusal>
     ensures { result ≡ answer (head_no head.now) tt }
 {
-    if head.stiffness < 1 || head.stiffness > 1000 || head.allowance > 1_000_000_000_000 {
-        return Err(Refusal {
-            cause: Cause::Setting,
-            place: 0,
-        });
-    }
-    if head.denominator < 1 || head.denominator > 1000 {
-        return Err(Refusal {
-            cause: Cause::Denominator,
-            place: 0,
-        });
+    check_settings(head.stiffness.cast_signed(), head.allowance.cast_signed())?;
+    if !(1..=1000).contains(&head.denominator) {
+        return Err(Cause::Denominator.into());
     }
     Ok(())
 }
 
-// The head in line 1, then the readings from line 2 on.
+// The head, then the readings.
 pub(crate) fn check_given(contents: &Contents) -> Result<(), Fault>
     ensures { MatchResult result (λ _. InOrder (figures_of contents.now)) (λ f. (k : KindsMeaning) → Least (Wrong k (figures_of contents.now)) f) }
 {
-    check_head(&contents.head).map_err(|refusal| fault_from(1, refusal))?;
-    let n = contents.head.readings as usize;
-    check_readings(&contents.readings[0..n]).map_err(|refusal| fault_from(2, refusal))
+    let lines = Lines::of(contents);
+    check_head(&contents.head).map_err(|refusal| fault_from(lines.head, refusal))?;
+    check_readings(contents.readings()).map_err(|refusal| fault_from(lines.readings, refusal))
 }

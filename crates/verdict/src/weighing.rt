@@ -3,7 +3,6 @@ ghost use Rattle.std.specs.Prelude.{◌≡◌, ◌+◌, None, MatchResult};
 ghost use Rattle.kinds.specs.declared.refusal.Cause.TheVariants.{Multiplier, Column};
 ghost use Rattle.kinds.specs.Checks.{first_off};
 ghost use Rattle.objective.specs.Checks.{is_value};
-ghost use Rattle.objective.specs.Objective.{three};
 ghost use Rattle.reader.specs.Faults.{fault, Least};
 ghost use Rattle.reader.specs.Readable.{figures_of};
 ghost use Rattle.verdict.specs.Stages.{Ready, Tabled, Floored};
@@ -13,7 +12,7 @@ use crate::lines::{Lines, fault_from};
 use kinds::penalty::Penalty;
 use kinds::refusal::{Cause, Refusal};
 use kinds::roughness::Roughness;
-use objective::trio::Kinds;
+use objective::trio::{Kinds, Meant};
 use objective::weigh::{weigh_multipliers, weigh_table};
 use reader::contents::Contents;
 use reader::fault::{Fault, Layer};
@@ -23,16 +22,15 @@ pub(crate) fn weigh_entries<R: Roughness, M: Penalty, B: Penalty>(
     kinds: &Kinds<R, M, B>,
     contents: &Contents,
 ) -> Result<u64, Fault>
-    requires { Ready (three (R.Roughness.meaning kinds.now.roughness) (M.Penalty.meaning kinds.now.misfit) (B.Penalty.meaning kinds.now.bend)) (figures_of contents.now) }
-    ensures { MatchResult result (λ cost. Tabled (three (R.Roughness.meaning kinds.now.roughness) (M.Penalty.meaning kinds.now.misfit) (B.Penalty.meaning kinds.now.bend)) (figures_of contents.now) cost) (λ f. Least (Wrong (three (R.Roughness.meaning kinds.now.roughness) (M.Penalty.meaning kinds.now.misfit) (B.Penalty.meaning kinds.now.bend)) (figures_of contents.now)) f) }
+    requires { Ready (⟦<Kinds<R, M, B> as Meant>⟧.meaning kinds.now) (figures_of contents.now) }
+    ensures { MatchResult result (λ cost. Tabled (⟦<Kinds<R, M, B> as Meant>⟧.meaning kinds.now) (figures_of contents.now) cost) (λ f. Least (Wrong (⟦<Kinds<R, M, B> as Meant>⟧.meaning kinds.now) (figures_of contents.now)) f) }
 {
-    let n = contents.head.readings as usize;
     let mut rows = [0; 240];
     weigh_table(
         kinds,
         contents.head.stiffness as i64,
-        &contents.readings[0..n],
-        &contents.entries[0..n],
+        contents.readings(),
+        contents.entries(),
         &mut rows,
     )
     .map_err(|refusal| fault_from(Lines::of(contents).entries, refusal))
@@ -55,18 +53,17 @@ pub(crate) fn weigh_slopes<R: Roughness, M: Penalty, B: Penalty>(
     kinds: &Kinds<R, M, B>,
     contents: &Contents,
 ) -> Result<i64, Fault>
-    requires ready { Ready (three (R.Roughness.meaning kinds.now.roughness) (M.Penalty.meaning kinds.now.misfit) (B.Penalty.meaning kinds.now.bend)) (figures_of contents.now) }
+    requires ready { Ready (⟦<Kinds<R, M, B> as Meant>⟧.meaning kinds.now) (figures_of contents.now) }
     requires values { first_off is_value (figures_of contents.now).entries ≡ None }
-    ensures { MatchResult result (λ floor. Floored (three (R.Roughness.meaning kinds.now.roughness) (M.Penalty.meaning kinds.now.misfit) (B.Penalty.meaning kinds.now.bend)) (figures_of contents.now) floor) (λ f. Least (Wrong (three (R.Roughness.meaning kinds.now.roughness) (M.Penalty.meaning kinds.now.misfit) (B.Penalty.meaning kinds.now.bend)) (figures_of contents.now)) f) }
+    ensures { MatchResult result (λ floor. Floored (⟦<Kinds<R, M, B> as Meant>⟧.meaning kinds.now) (figures_of contents.now) floor) (λ f. Least (Wrong (⟦<Kinds<R, M, B> as Meant>⟧.meaning kinds.now) (figures_of contents.now)) f) }
 {
-    let n = contents.head.readings as usize;
     let mut columns = [0; 240];
     weigh_multipliers(
         kinds,
         contents.head.stiffness as i64,
-        &contents.readings[0..n],
+        contents.readings(),
         contents.head.denominator as i64,
-        &contents.multipliers[0..contents.count],
+        contents.multipliers(),
         &mut columns,
     )
     .map_err(|refusal| slope_fault(contents, refusal))

@@ -46,7 +46,7 @@ pub(crate) fn gap(rt: &HostRuntime, known: Option<(Gap, i64)>) -> io::Result<()>
     };
     let scaled = gap.scaled;
     let spare = gap.spare.unsigned_abs();
-    if gap.within {
+    if gap.within() {
         println!(rt; "gap {scaled}/{denominator} within the allowance by {spare}/{denominator}")
     } else {
         println!(rt; "gap {scaled}/{denominator} above the allowance by {spare}/{denominator}")

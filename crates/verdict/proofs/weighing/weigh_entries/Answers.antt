@@ -18,7 +18,7 @@ returns g c =
     let k = three (g.R.Roughness.meaning c.args.kinds.now.roughness) (g.M.Penalty.meaning c.args.kinds.now.misfit) (g.B.Penalty.meaning c.args.kinds.now.bend) in
     let contents = c.args.contents.now in
     let figures = figures_of contents in
-    let answered = table_handed (λ (h : ℤ) (xs : List Reading) (vs : List ℤ). c.weigh_table.result ≡ answer (weigh_table_no k h xs vs 240) (cost_of k (unsigned_abs h) xs vs)) contents c.requires.given.head c.weigh_table.ensures.answered in
+    let answered = table_handed (λ (h : ℤ) (xs : List Reading) (vs : List ℤ). c.weigh_table.result ≡ answer (weigh_table_no k h xs vs 240) (cost_of k (unsigned_abs h) xs vs)) contents c.requires.given.head c.readings.ensures c.entries.ensures c.weigh_table.ensures.answered in
     faulted _ (Tabled k figures) (Least (Wrong k figures)) _ _ c.weigh_table.result c.map_err.result answered c.map_err.ensures.cases (tabled k figures c.requires) (λ e f off told.
     let is : f ≡ fault layer.Figures e.cause ((lines_of figures).entries + e.place) = search rules in
     rw is (table_stops k figures c.requires e off))

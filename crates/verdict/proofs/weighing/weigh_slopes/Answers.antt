@@ -16,7 +16,7 @@ returns g c =
     let law : KindsLaws k = record { roughness = g.met.R.Roughness.kept c.args.kinds.now.roughness; misfit = g.met.M.Penalty.kept c.args.kinds.now.misfit; bend = g.met.B.Penalty.kept c.args.kinds.now.bend } in
     let contents = c.args.contents.now in
     let figures = figures_of contents in
-    let weighs = multipliers_weighed k contents _ _ c.weigh_multipliers.result c.requires.ready.given.head c.weigh_multipliers.ensures in
+    let weighs = multipliers_weighed k contents _ _ c.weigh_multipliers.result c.requires.ready.given.head c.readings.ensures c.multipliers.ensures c.weigh_multipliers.ensures in
     faulted _ (Floored k figures) (Least (Wrong k figures)) _ _ c.weigh_multipliers.result c.map_err.result weighs.answered c.map_err.ensures.cases (floored k figures _ _ _ refl weighs) (λ e f off told.
     let multiplier : e.cause ≡ Multiplier → f ≡ fault layer.Figures Multiplier ((lines_of figures).multipliers + e.place) = λ (h : e.cause ≡ Multiplier). search rules in
     let column : e.cause ≡ Column → f ≡ fault layer.Figures Column ((lines_of figures).readings + e.place) = λ (h : e.cause ≡ Column). search rules in

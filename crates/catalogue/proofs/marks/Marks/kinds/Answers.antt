@@ -1,5 +1,5 @@
 use Rattle.std.proofs.Common.{refl}
-use Rattle.catalogue.proofs.marks.kinds_of.Goals as goal
+use Rattle.catalogue.proofs.marks.Marks.kinds.Goals as goal
 
 pub returns : goal.returns
 returns c = record {
