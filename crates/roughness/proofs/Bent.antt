@@ -1,6 +1,7 @@
--- The sums and products of a bend, each stored in 64 bits and read again.
+-- The sums and products of a bend and of its transpose, each stored in 64 bits and read again.
 --     kept          a number that is stored and read again
 --     Bent          that each sum and product of a bend fits, and what the whole is
+--     Shared        the same of a multiplier's shares
 use Rattle.std.proofs.Common.{◌≡◌, ◌≤◌, ℤ, ◌+ℤ◌, ◌-ℤ◌, ◌*ℤ◌, nat_abs, pos, get_or, List, [], ◌∷◌, arith, w64, SFits, to_z, of_z}
 use Rattle.std.proofs.lemmas.Int.{to_z-of_z}
 use Rattle.kinds.specs.Figures.{largest}
@@ -50,8 +51,14 @@ bent a b v w x ha hb hv hw hx =
 pub largest_shares : (a b m : ℤ) → nat_abs a ≤ 60 → nat_abs b ≤ 60 → nat_abs m ≤ 1000000000000 → largest (shares a b m) ≤ 120000000000000
 largest_shares a b m ha hb hm = omega (arith, size_mul_most b m hb hm, size_mul_most (a +ℤ b) m (size_add_most a b ha hb) hm, size_mul_most a m ha hm)
 
-pub shares_kept : (a b m : ℤ) → nat_abs a ≤ 60 → nat_abs b ≤ 60 → nat_abs m ≤ 1000000000000 → ◌≡◌ {A = List ℤ} (kept (kept b *ℤ kept m) ∷ (kept (kept (kept a +ℤ kept b) *ℤ kept m) ∷ (kept (kept a *ℤ kept m) ∷ []))) (shares a b m)
-shares_kept a b m ha hb hm =
+pub record Shared (a b m : ℤ) : Type 0 where
+  pub near : SFits w64 (kept b *ℤ kept m)
+  pub middle : SFits w64 (kept (kept a +ℤ kept b) *ℤ kept m)
+  pub far : SFits w64 (kept a *ℤ kept m)
+  pub value : ◌≡◌ {A = List ℤ} (kept (kept b *ℤ kept m) ∷ (kept (kept (kept a +ℤ kept b) *ℤ kept m) ∷ (kept (kept a *ℤ kept m) ∷ []))) (shares a b m)
+
+pub shared : (a b m : ℤ) → nat_abs a ≤ 60 → nat_abs b ≤ 60 → nat_abs m ≤ 1000000000000 → Shared a b m
+shared a b m ha hb hm =
     let fa = fits64 a (omega arith) in
     let fb = fits64 b (omega arith) in
     let fm = fits64 m (omega arith) in
@@ -62,8 +69,12 @@ shares_kept a b m ha hb hm =
     let s₃ = size_mul_most (a +ℤ b) m s₂ hm in
     let f₃ = fits64 ((a +ℤ b) *ℤ m) (omega arith) in
     let s₄ = size_mul_most a m ha hm in
-    let f₄ = fits64 (a *ℤ m) (omega arith) in
-    simp to_z-of_z
+    let f₄ = fits64 (a *ℤ m) (omega arith) in record {
+      near = simp to_z-of_z f₁;
+      middle = simp to_z-of_z f₃;
+      far = simp to_z-of_z f₄;
+      value = simp to_z-of_z;
+    }
 
 -- of three values that stand in a list
 pub bent_of : (a b : ℤ) (vs : List ℤ) → nat_abs a ≤ 60 → nat_abs b ≤ 60 → largest vs ≤ 1000000000000 → Bent a b (get_or vs 0 (pos 0)) (get_or vs 1 (pos 0)) (get_or vs 2 (pos 0))

@@ -39,6 +39,12 @@ shares-requires c =
 share_at : (xs : List ℤ) (j : ℕ) → largest xs ≤ 120000000000000 → nat_abs (get_or xs j (pos 0)) ≤ 120000000000000
 share_at xs j small = omega (arith, size_at xs j)
 
+pub overflow_add-columns : goal.overflow_add-columns
+overflow_add-columns c =
+    let share = share_at c.shares.result 0 c.shares.ensures.small in
+    let size = size_add_most (to_z w64 c.loop-k.here-bits) (get_or c.shares.result 0 (pos 0)) c.loop-k.invariant.here_small share in
+    (onto ◌+ℤ◌ (to_z w64 c.loop-k.here-bits) (get_or c.shares.result 0 (pos 0)) (omega arith) (omega arith)).0
+
 pub overflow_sub-here : goal.overflow_sub-here
 overflow_sub-here c =
     let share = share_at c.shares.result 1 c.shares.ensures.small in
