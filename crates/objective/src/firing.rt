@@ -33,6 +33,7 @@ fn minutes_of(readings: &[Reading]) -> [i64; 240]
     ensures { take (length readings.now) result ≡ minutes readings.now }
 {
     let mut minutes = [0; 240];
+    // Kept so: a zip with `iter_mut` was tried, and the proof then knows nothing of the array after the loop.
     for (at, reading) in readings.iter().enumerate() {
         minutes[at] = reading.minute;
     }
