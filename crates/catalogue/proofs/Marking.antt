@@ -41,7 +41,7 @@ grows (SlopeTwice k) = omega arith
 
 rises : (k : KnownPenalty) → (penalty_meaning k).steepness ≤ 100
 rises (Absolute k) = omega arith
-rises (Lopsided k) = omega (arith, k.rises, k.falls)
+rises (Lopsided k) = omega (arith, k.sides.rises, k.sides.falls)
 
 pub not_steep : {r m b : ℕ} {k : KindsMeaning} → Marked r m b k → kinds_no k ≡ None
 not_steep at =

@@ -1,5 +1,5 @@
 -- The marks of the known kinds.
-use Rattle.std.proofs.Common.{◌≡◌, ℕ, zero, suc, ◌+◌, ◌-◌, ◌≤◌, cond, ltb, Some, None, Option, sym, refl, ap, ◌∙◌, arith}
+use Rattle.std.proofs.Common.{◌≡◌, ℕ, zero, suc, ◌+◌, ◌-◌, ◌≤◌, cond, ltb, Some, None, Option, ok_or, sym, refl, ap, ◌∙◌, arith}
 use Rattle.kinds.specs.Roughness.{RoughnessMeaning}
 use Rattle.roughness.specs.Maps.{first, slope}
 use Rattle.known.specs.declared.penalty.KnownPenalty.{KnownPenalty}
@@ -14,8 +14,8 @@ raised_mark zero below most = omega arith
 raised_mark (suc n) below most = let e : (raised_times n below).mark ≡ below.mark + n = raised_mark n below (omega arith) in omega (arith, e)
 
 -- a kind that was raised so many times has the mark
-pub raised_has : (below : RoughnessMeaning) (most times mark : ℕ) (r : Option KnownRoughness) → Raises below most times r → times ≤ most → below.mark + times ≤ 65535 → mark ≡ below.mark + times → RoughnessOf mark r
-raised_has below most times mark None above within fits is = λ k e. omega (arith, above)
+pub raised_has : (below : RoughnessMeaning) (most times mark : ℕ) (r : Option KnownRoughness) → Raises below most times r → times ≤ most → below.mark + times ≤ 65535 → mark ≡ below.mark + times → RoughnessOf mark (ok_or r (record { 0 = mark }))
+raised_has below most times mark None above within fits is = absurd (omega (arith, above))
 raised_has below most times mark (Some k) made within fits is = ap (λ (x : RoughnessMeaning). x.mark) made.1 ∙ (raised_mark times below fits ∙ sym is)
 
 -- what the known roughness of a mark means
@@ -41,6 +41,6 @@ same_penalty (Absolute j) (Absolute k) e = refl
 same_penalty (Absolute j) (Lopsided k) e = absurd (omega (arith, e))
 same_penalty (Lopsided j) (Absolute k) e = absurd (omega (arith, e))
 same_penalty (Lopsided j) (Lopsided k) e =
-    let rises : j.rise ≡ k.rise = omega (arith, j.rises, j.falls, k.rises, k.falls) in
-    let falls : j.fall ≡ k.fall = omega (arith, j.rises, j.falls, k.rises, k.falls) in
+    let rises : j.sides.rise ≡ k.sides.rise = omega (arith, j.sides.rises, j.sides.falls, k.sides.rises, k.sides.falls) in
+    let falls : j.sides.fall ≡ k.sides.fall = omega (arith, j.sides.rises, j.sides.falls, k.sides.rises, k.sides.falls) in
     cc

@@ -2,5 +2,7 @@
 #![tactic(auto)]
 
 pub mod cases;
+pub mod mark;
 pub mod penalty;
 pub mod roughness_kind;
+pub mod trio;

@@ -7,6 +7,7 @@ ghost use Rattle.penalties.specs.Sides.{absolute, lopsided};
 ghost use Rattle.known.specs.declared.penalty.KnownPenalty.TheVariants.{Absolute, Lopsided};
 ghost use Rattle.penalties.specs.Kept.{absolute_kept, lopsided_kept};
 
+use crate::mark::UnknownMark;
 use kinds::penalty::Penalty;
 use kinds::refusal::Refusal;
 use penalties::absolute::Absolute;
@@ -44,22 +45,21 @@ impl KnownPenalty {
     {
         Ok(KnownPenalty::Lopsided(Lopsided::new(rise, fall)?))
     }
+}
 
-    // The known penalty of a mark, none where there is none.
-    pub fn from_mark(mark: u64) -> Option<KnownPenalty>
-        ensures { PenaltyOf mark result }
-    {
+// The known penalty of a mark.
+impl TryFrom<u64> for KnownPenalty {
+    type Error = UnknownMark;
+
+    ghost try_from_gives = { PenaltyOf };
+
+    fn try_from(mark: u64) -> Result<KnownPenalty, UnknownMark> {
+        let unknown = UnknownMark(mark);
         if mark == 0 {
-            return Some(KnownPenalty::absolute());
+            return Ok(KnownPenalty::absolute());
         }
-        if mark < LOPSIDED {
-            return None;
-        }
-        let sides = mark - LOPSIDED;
-        match KnownPenalty::lopsided((sides / 256) as i64, (sides % 256) as i64) {
-            Ok(kind) => Some(kind),
-            Err(_) => None,
-        }
+        let sides = mark.checked_sub(LOPSIDED).ok_or(unknown)?;
+        KnownPenalty::lopsided((sides / 256) as i64, (sides % 256) as i64).map_err(|_| unknown)
     }
 }
 
@@ -68,7 +68,7 @@ impl Penalty for KnownPenalty {
 
     ghost kept = { elim [
       | Absolute k ↦ absolute_kept
-      | Lopsided k ↦ lopsided_kept k.rise k.fall k.rises.1 k.falls.1
+      | Lopsided k ↦ lopsided_kept k.sides.rise k.sides.fall k.sides.rises.1 k.sides.falls.1
     ] };
 
     fn steepness(&self) -> u32 {

@@ -5,6 +5,7 @@ ghost use Rattle.known.specs.declared.roughness_kind.KnownRoughness.TheVariants.
 ghost use Rattle.roughness.specs.Kept.{first_kept, slope_kept};
 ghost use Rattle.known.specs.Raised.{raised_times_kept};
 
+use crate::mark::UnknownMark;
 use kinds::refusal::Refusal;
 use kinds::roughness::Roughness;
 use roughness::first::First;
@@ -66,15 +67,20 @@ impl KnownRoughness {
             _ => None,
         }
     }
+}
 
-    // The known roughness of a mark, none where there is none.
-    pub fn from_mark(mark: u64) -> Option<KnownRoughness>
-        ensures { RoughnessOf mark result }
-    {
+// The known roughness of a mark.
+impl TryFrom<u64> for KnownRoughness {
+    type Error = UnknownMark;
+
+    ghost try_from_gives = { RoughnessOf };
+
+    fn try_from(mark: u64) -> Result<KnownRoughness, UnknownMark> {
+        let unknown = UnknownMark(mark);
         match mark {
-            257..=260 => KnownRoughness::first((mark - 257) as u8),
-            514..=516 => KnownRoughness::slope((mark - 514) as u8),
-            _ => None,
+            257..=260 => KnownRoughness::first((mark - 257) as u8).ok_or(unknown),
+            514..=516 => KnownRoughness::slope((mark - 514) as u8).ok_or(unknown),
+            _ => Err(unknown),
         }
     }
 }

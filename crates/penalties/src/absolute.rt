@@ -2,11 +2,11 @@
 ghost use Rattle.penalties.specs.Sides.{absolute};
 ghost use Rattle.penalties.specs.Kept.{absolute_kept};
 
-use crate::sides;
+use crate::sides::Sides;
 use kinds::penalty::Penalty;
 
-// How much a unit counts, on either side.
-const SIDE: u32 = 1;
+// A unit counts 1 on either side.
+const EVEN: Sides = Sides { rise: 1, fall: 1 };
 
 const MARK: u32 = 0;
 
@@ -19,7 +19,7 @@ impl Penalty for Absolute {
     ghost kept = { λ k. absolute_kept };
 
     fn steepness(&self) -> u32 {
-        SIDE
+        EVEN.steepness()
     }
 
     fn mark(&self) -> u32 {
@@ -27,14 +27,14 @@ impl Penalty for Absolute {
     }
 
     fn cost(&self, weight: i64, residual: i64) -> Option<u64> {
-        sides::cost(SIDE, SIDE, weight, residual)
+        EVEN.cost(weight, residual)
     }
 
     fn allows(&self, weight: i64, denominator: i64, slope: i64) -> Option<bool> {
-        sides::allows(SIDE, SIDE, weight, denominator, slope)
+        EVEN.allows(weight, denominator, slope)
     }
 
     fn touching_slope(&self, weight: i64, denominator: i64, residual: i64) -> Option<i64> {
-        sides::touching_slope(SIDE, SIDE, weight, denominator, residual)
+        EVEN.touching_slope(weight, denominator, residual)
     }
 }

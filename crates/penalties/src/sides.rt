@@ -1,7 +1,10 @@
-// What penalties with two sides answer, from how much a unit above 0 and a unit below 0 count.
-ghost use Rattle.std.specs.Prelude.{◌≡◌, ◌≤◌, unsigned_abs};
-ghost use Rattle.kinds.specs.Penalty.{is_weight, is_denominator, is_residual, is_slope, cost_answer, allows_answer, touch_answer};
-ghost use Rattle.penalties.specs.Sides.{lopsided, highest_slope, lowest_slope};
+// Penalties with two sides: how much a unit of a residual counts, above 0 and below 0.
+ghost use Rattle.std.specs.Prelude.{◌≡◌, ◌≤◌, max};
+ghost use Rattle.kinds.specs.Penalty.{cost_answer, allows_answer, touch_answer};
+ghost use Rattle.penalties.specs.Sides.{lopsided, AllowedSlopes};
+
+use std::cmp::Ordering;
+use std::ops::RangeInclusive;
 
 // The largest weight and denominator, and the largest sizes of a residual and a slope, that are answered.
 const MOST_WEIGHT: i64 = 1_000;
@@ -12,91 +15,67 @@ const MOST_RESIDUAL: u64 = 40_000_000;
 
 const MOST_SLOPE: u64 = 1_000_000_000_000;
 
-pub(crate) fn cost(rise: u32, fall: u32, weight: i64, residual: i64) -> Option<u64>
-    requires { (rise ≤ 100) × (fall ≤ 100) }
-    ensures { result ≡ cost_answer (lopsided rise fall) weight residual }
-{
-    if !known_weight(weight) || !known_residual(residual) {
-        return None;
+#[derive(Clone, Copy)]
+pub(crate) struct Sides {
+    // how much a unit above 0 counts
+    pub(crate) rise: u32,
+    // how much a unit below 0 counts
+    pub(crate) fall: u32,
+    ghost rises: { (1 ≤ rise) × (rise ≤ 100) },
+    ghost falls: { (1 ≤ fall) × (fall ≤ 100) },
+}
+
+impl Sides {
+    pub(crate) fn steepness(self) -> u32
+        ensures { result ≡ max self.rise self.fall }
+    {
+        self.rise.max(self.fall)
     }
-    let side = if residual >= 0 { rise } else { fall };
-    Some(weight.unsigned_abs() * side as u64 * residual.unsigned_abs())
-}
 
-pub(crate) fn allows(
-    rise: u32,
-    fall: u32,
-    weight: i64,
-    denominator: i64,
-    slope: i64,
-) -> Option<bool>
-    requires { (rise ≤ 100) × (fall ≤ 100) }
-    ensures { result ≡ allows_answer (lopsided rise fall) weight denominator slope }
-{
-    if !known_weight(weight) || !known_denominator(denominator) || !known_slope(slope) {
-        return None;
+    pub(crate) fn cost(self, weight: i64, residual: i64) -> Option<u64>
+        ensures { result ≡ cost_answer (lopsided self.rise self.fall) weight residual }
+    {
+        if !(0..=MOST_WEIGHT).contains(&weight) || residual.unsigned_abs() > MOST_RESIDUAL {
+            return None;
+        }
+        let side = if residual >= 0 { self.rise } else { self.fall };
+        Some(weight.unsigned_abs() * u64::from(side) * residual.unsigned_abs())
     }
-    let lowest = lowest_slope(fall, weight, denominator);
-    let highest = highest_slope(rise, weight, denominator);
-    Some(lowest <= slope && slope <= highest)
-}
 
-pub(crate) fn touching_slope(
-    rise: u32,
-    fall: u32,
-    weight: i64,
-    denominator: i64,
-    residual: i64,
-) -> Option<i64>
-    requires { (rise ≤ 100) × (fall ≤ 100) }
-    ensures { result ≡ touch_answer (lopsided rise fall) weight denominator residual }
-{
-    if !known_weight(weight) || !known_denominator(denominator) || !known_residual(residual) {
-        return None;
+    pub(crate) fn allows(self, weight: i64, denominator: i64, slope: i64) -> Option<bool>
+        ensures { result ≡ allows_answer (lopsided self.rise self.fall) weight denominator slope }
+    {
+        let slopes = self.slopes(weight, denominator)?;
+        if slope.unsigned_abs() > MOST_SLOPE {
+            return None;
+        }
+        Some(slopes.contains(&slope))
     }
-    if residual > 0 {
-        Some(highest_slope(rise, weight, denominator))
-    } else if residual < 0 {
-        Some(lowest_slope(fall, weight, denominator))
-    } else {
-        Some(0)
+
+    pub(crate) fn touching_slope(self, weight: i64, denominator: i64, residual: i64) -> Option<i64>
+        ensures { result ≡ touch_answer (lopsided self.rise self.fall) weight denominator residual }
+    {
+        let slopes = self.slopes(weight, denominator)?;
+        if residual.unsigned_abs() > MOST_RESIDUAL {
+            return None;
+        }
+        Some(match residual.cmp(&0) {
+            Ordering::Greater => *slopes.end(),
+            Ordering::Less => *slopes.start(),
+            Ordering::Equal => 0,
+        })
     }
-}
 
-fn highest_slope(rise: u32, weight: i64, denominator: i64) -> i64
-    requires { (rise ≤ 100) × ((unsigned_abs weight ≤ 1000) × (unsigned_abs denominator ≤ 1000)) }
-    ensures { result ≡ highest_slope rise (unsigned_abs weight) (unsigned_abs denominator) }
-{
-    (denominator.unsigned_abs() * weight.unsigned_abs() * rise as u64) as i64
-}
-
-fn lowest_slope(fall: u32, weight: i64, denominator: i64) -> i64
-    requires { (fall ≤ 100) × ((unsigned_abs weight ≤ 1000) × (unsigned_abs denominator ≤ 1000)) }
-    ensures { result ≡ lowest_slope fall (unsigned_abs weight) (unsigned_abs denominator) }
-{
-    -highest_slope(fall, weight, denominator)
-}
-
-fn known_weight(weight: i64) -> bool
-    ensures { result ≡ is_weight weight }
-{
-    0 <= weight && weight <= MOST_WEIGHT
-}
-
-fn known_denominator(denominator: i64) -> bool
-    ensures { result ≡ is_denominator denominator }
-{
-    1 <= denominator && denominator <= MOST_DENOMINATOR
-}
-
-fn known_residual(residual: i64) -> bool
-    ensures { result ≡ is_residual residual }
-{
-    residual.unsigned_abs() <= MOST_RESIDUAL
-}
-
-fn known_slope(slope: i64) -> bool
-    ensures { result ≡ is_slope slope }
-{
-    slope.unsigned_abs() <= MOST_SLOPE
+    // The allowed slopes, none where the weight or the denominator is out of range.
+    fn slopes(self, weight: i64, denominator: i64) -> Option<RangeInclusive<i64>>
+        ensures { AllowedSlopes self.rise self.fall weight denominator result }
+    {
+        if !(0..=MOST_WEIGHT).contains(&weight) || !(1..=MOST_DENOMINATOR).contains(&denominator) {
+            return None;
+        }
+        let reach = denominator.unsigned_abs() * weight.unsigned_abs();
+        let highest = (reach * u64::from(self.rise)) as i64;
+        let lowest = (reach * u64::from(self.fall)) as i64;
+        Some(-lowest..=highest)
+    }
 }
