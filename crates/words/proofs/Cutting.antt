@@ -1,48 +1,52 @@
 -- Cutting a text at the first of some marks, and the words that this gives.
-use Rattle.std.proofs.Common.{◌≡◌, ℕ, suc, ◌+◌, ◌<◌, ◌≤◌, true, false, cond, List, [], ◌∷◌, ◌++◌, length, get_or, take, drop, filter, sym, refl, ap, ◌∙◌, append_assoc, append-nil, arith}
-use Rattle.std.proofs.lemmas.List.{take_more, drop_more, take_all, drop_all, nil_from_length}
+use Rattle.std.proofs.Common.{◌≡◌, ℕ, suc, ◌+◌, ◌<◌, ◌≤◌, true, false, cond, List, [], ◌∷◌, length, take, drop, filter, sym, refl, ap, ◌∙◌, arith, Bool, not, ◌||◌, add-one, eqb, ltb, Option, Some, None}
+use Rattle.std.proofs.lemmas.Bool.Decides.{nat_tests}
+use Rattle.std.proofs.Math.Numerals.{one-add}
+use Rattle.std.proofs.lemmas.List.{take_all, drop_all, nil_from_length}
+use Rattle.std.specs.List.{list_any, position_or_len, before_first, after_first}
 use Rattle.words.specs.Words.{is_in, before, after, Cut, pieces, longer_first, gaps, not_empty, words_of}
 
--- the first i bytes are no marks
-pub record Passed (marks text : List ℕ) (i : ℕ) : Type 0 where
-  pub front : take i text ++ before marks (drop i text) ≡ before marks text
-  pub back : after marks (drop i text) ≡ after marks text
+-- whether a byte is a mark, as `contains` tells
+abbrev pub mark_in : List ℕ → ℕ → Bool
+mark_in marks b = list_any (λ m. eqb m b) marks
 
-module _ (marks text : List ℕ) where
-  pub passed_none : Passed marks text 0
-  passed_none = record { front = refl; back = refl }
+mark_is : (marks : List ℕ) (b : ℕ) → mark_in marks b ≡ is_in marks b
+mark_is [] b = refl
+mark_is (m ∷ ms) b = ap (λ t. eqb m b || t) (mark_is ms b)
 
-  pub passed_more : (i : ℕ) → i < length text → is_in marks (get_or text i 0) ≡ false
-      → Passed marks text i → Passed marks text (i + 1)
-  passed_more i lt e p =
-      let d = drop_more text i 0 lt in
-      let f : before marks (drop i text) ≡ get_or text i 0 ∷ before marks (drop (i + 1) text) = rw (d, e) refl in
-      let b : after marks (drop i text) ≡ after marks (drop (i + 1) text) = rw (d, e) refl in
-      record {
-        front = rw (take_more text i 0 lt, append_assoc) (ap (λ xs. take i text ++ xs) (sym f) ∙ p.front);
-        back = sym b ∙ p.back;
-      }
+first_front : (marks text : List ℕ) → before_first (mark_in marks) text ≡ before marks text
+first_front marks [] = refl
+first_front marks (b ∷ bs) =
+    let n = position_or_len (mark_in marks) bs in
+    rw (mark_is marks b)
+    (elim (is_in marks b) as (λ t. take (cond (not t) (1 + n) 0) (b ∷ bs) ≡ cond t [] (b ∷ before marks bs))
+    [ true ↦ refl | false ↦ rw one-add (ap (λ xs. b ∷ xs) (first_front marks bs)) ])
 
-  module _ (i : ℕ) (p : Passed marks text i) where
-    pub passed_mark : i < length text → is_in marks (get_or text i 0) ≡ true → Cut marks text (take i text) (drop (i + 1) text)
-    passed_mark lt e =
-        let d = drop_more text i 0 lt in
-        let f : before marks (drop i text) ≡ [] = rw (d, e) refl in
-        let b : after marks (drop i text) ≡ drop (i + 1) text = rw (d, e) refl in
-        record {
-          front_is = sym (append-nil (take i text)) ∙ ap (λ xs. take i text ++ xs) (sym f) ∙ p.front;
-          back_is = sym b ∙ p.back;
-        }
+first_back : (marks text : List ℕ) → after_first (mark_in marks) text ≡ after marks text
+first_back marks [] = refl
+first_back marks (b ∷ bs) =
+    let n = position_or_len (mark_in marks) bs in
+    rw (mark_is marks b)
+    (elim (is_in marks b) as (λ t. drop (cond (not t) (1 + n) 0 + 1) (b ∷ bs) ≡ cond t bs (after marks bs))
+    [ true ↦ refl | false ↦ rw (add-one, one-add) (rw add-one at (first_back marks bs)) ])
 
-    pub passed_all : length text ≤ i → Cut marks text text []
-    passed_all le =
-        let d = drop_all i text le in
-        let f : before marks (drop i text) ≡ [] = rw d refl in
-        let b : after marks (drop i text) ≡ [] = rw d refl in
-        record {
-          front_is = sym (take_all i text le) ∙ sym (append-nil (take i text)) ∙ ap (λ xs. take i text ++ xs) (sym f) ∙ p.front;
-          back_is = sym b ∙ p.back;
-        }
+-- where `position` finds the first mark
+abbrev pub first_mark : List ℕ → List ℕ → Option ℕ
+first_mark marks text = cond (ltb (position_or_len (mark_in marks) text) (length text)) (Some (position_or_len (mark_in marks) text)) None
+
+pub cut_found : (marks text : List ℕ) (i : ℕ) → first_mark marks text ≡ Some i → Cut marks text (take i text) (drop (i + 1) text)
+cut_found marks text i e =
+    let at : position_or_len (mark_in marks) text ≡ i = grind arith in
+    record { front_is = rw at at (first_front marks text); back_is = rw at at (first_back marks text) }
+
+pub cut_missed : (marks text : List ℕ) → first_mark marks text ≡ None → Cut marks text text []
+cut_missed marks text e =
+    let n = position_or_len (mark_in marks) text in
+    let all : length text ≤ n = grind (arith, nat_tests) in
+    record {
+      front_is = sym (take_all n text all) ∙ first_front marks text;
+      back_is = sym (drop_all (n + 1) text (omega arith)) ∙ first_back marks text;
+    }
 
 after_short : (marks text : List ℕ) → length (after marks text) ≤ length text
 after_short marks [] = omega arith

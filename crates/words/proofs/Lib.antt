@@ -1,3 +1,4 @@
+mod Spelling
 mod Cutting
 mod Decimal
 mod Penalties

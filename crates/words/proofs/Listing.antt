@@ -1,96 +1,53 @@
--- Counting the figures of some words, and writing them into a place.
-use Rattle.std.proofs.Common.{◌≡◌, ℕ, ◌+◌, ◌<◌, ◌≤◌, List, [], ◌∷◌, ◌++◌, length, take, drop, set, ℤ, Some, None, Option, sym, refl, ap, ◌∙◌, append_assoc, append-nil, arith, length-append}
-use Rattle.std.proofs.lemmas.List.{take_more_set, drop-set-lt, drop-drop, drop_all, take_all, take_at, length-take-le, take-append-drop}
+-- Whether some words are all figures, how many these are, and writing them into a place.
+use Rattle.std.proofs.Common.{◌≡◌, ℕ, suc, Bool, true, ◌&&◌, List, [], ◌∷◌, ◌++◌, length, take, drop, ℤ, Some, None, Option, is_some, refl, ap, ◌∙◌}
+use Rattle.std.specs.List.{list_all}
 use Rattle.words.specs.Figures.{figure_of}
-use Rattle.words.specs.Arguments.{and_then, figures_of, count_of, front_if, leading, written, place_after, first_as, behind}
+use Rattle.words.specs.Arguments.{and_then, figures_of, count_of, leading, written, place_after}
 
--- n figures, and then those that were read
-abbrev pub counted : ℕ → Option (List ℤ) → Option ℕ
-counted n None = None
-counted n (Some fs) = Some (n + length fs)
+-- whether a word is a figure
+abbrev pub is_figure : List ℕ → Bool
+is_figure w = is_some (figure_of w)
 
-pub counted_none : (o : Option (List ℤ)) → counted 0 o ≡ count_of o
-counted_none None = refl
-counted_none (Some fs) = ap Some (omega arith)
+figures_step : (o : Option ℤ) (p : Option (List ℤ)) (t : Bool) → t ≡ is_some p → (is_some o && t) ≡ is_some (and_then o (λ f. and_then p (λ fs. Some (f ∷ fs))))
+figures_step None p t e = refl
+figures_step (Some f) None t e = e
+figures_step (Some f) (Some fs) t e = e
 
-counted_first : (n : ℕ) (f : ℤ) (o : Option (List ℤ)) → counted n (and_then o (λ fs. Some (f ∷ fs))) ≡ counted (n + 1) o
-counted_first n f None = refl
-counted_first n f (Some fs) = ap Some (omega arith)
-
-module _ (n : ℕ) (ws left : List (List ℕ)) (w : List ℕ) (split : ws ≡ w ∷ left) where
-  pub counted_more : (f : ℤ) → Some f ≡ figure_of w → counted (n + 1) (figures_of left) ≡ counted n (figures_of ws)
-  unfolding figures_of
-  counted_more f e = rw (split, sym e) (sym (counted_first n f (figures_of left)))
-
-  pub counted_no_figure : None ≡ figure_of w → None ≡ counted n (figures_of ws)
-  unfolding figures_of
-  counted_no_figure e = rw (split, sym e) refl
-
-pub counted_all : (n : ℕ) (ws : List (List ℕ)) → ws ≡ [] → Some n ≡ counted n (figures_of ws)
+pub all_figures : (ws : List (List ℕ)) → list_all is_figure ws ≡ is_some (figures_of ws)
 unfolding figures_of
-counted_all n ws e = rw e (ap Some (omega arith))
-
-leading_stops : (ws : List (List ℕ)) → None ≡ first_as figure_of ws → leading ws ≡ []
-leading_stops [] e = refl
-leading_stops (w ∷ ws) e = rw (sym e) refl
-
-leading_next : (ws : List (List ℕ)) (f : ℤ) → Some f ≡ first_as figure_of ws → leading ws ≡ f ∷ leading (behind ws)
-leading_next [] f e = absurd (let z : ◌≡◌ {A = ℕ} 0 1 = cc in omega arith)
-leading_next (w ∷ ws) f e = rw (sym e) refl
+all_figures [] = refl
+all_figures (w ∷ ws) = figures_step (figure_of w) (figures_of ws) (list_all is_figure ws) (all_figures ws)
 
 -- i figures of the words are written into a place, and the words ws are left
 pub record Written (all ws : List (List ℕ)) (old at : List ℤ) (i : ℕ) : Type 0 where
   pub front : take i at ++ leading ws ≡ leading all
   pub rest : drop i at ≡ drop i old
 
-pub written_none : (all : List (List ℕ)) (old : List ℤ) → Written all all old old 0
-written_none all old = record { front = refl; rest = refl }
-
-module _ (all ws : List (List ℕ)) (old at : List ℤ) (i : ℕ) (d : Written all ws old at i) where
-  pub written_more : (f stored : ℤ) (left : List (List ℕ)) → i < length at → Some f ≡ first_as figure_of ws → left ≡ behind ws
-      → stored ≡ f → Written all left old (set at i stored) (i + 1)
-  written_more f stored left lt first others same =
-      let e : leading ws ≡ stored ∷ leading left = rw (others, same) (leading_next ws f first) in
-      record {
-        front = rw (take_more_set at i stored lt, append_assoc) (ap (λ fs. take i at ++ fs) (sym e) ∙ d.front);
-        rest = drop-set-lt (i + 1) at i stored (omega arith) ∙ sym (drop-drop 1 i at) ∙ ap (drop 1) d.rest ∙ drop-drop 1 i old;
-      }
-
-  pub written_end : None ≡ first_as figure_of ws → i ≤ length at → length at ≡ length old → at ≡ written (leading all) old
-  written_end none le same =
-      let f : leading all ≡ take i at = sym d.front ∙ ap (λ fs. take i at ++ fs) (leading_stops ws none) ∙ append-nil (take i at) in
-      let n : length (take i at) ≡ i = length-take-le i at le in
-      let t : take (length old) (take i at) ≡ take i at = take_all (length old) (take i at) (omega arith) in
-      rw (f, t, n) (sym (take-append-drop i at) ∙ ap (λ fs. take i at ++ fs) d.rest)
-
-  pub written_full : length at ≤ i → length at ≡ length old → at ≡ written (leading all) old
-  written_full le same =
-      let f : leading all ≡ at ++ leading ws = sym d.front ∙ ap (λ fs. fs ++ leading ws) (take_all i at le) in
-      let t : take (length old) (at ++ leading ws) ≡ at = take_at at (leading ws) (length old) same in
-      let n : drop (length (at ++ leading ws)) old ≡ [] = drop_all _ old (omega (arith, length-append at (leading ws))) in
-      rw (f, t, n) (sym (append-nil at))
+listed_step : (o : Option ℤ) (p : Option (List ℤ)) (fs : List ℤ) → and_then o (λ f. and_then p (λ hs. Some (f ∷ hs))) ≡ Some fs
+    → (f : ℤ) × (hs : List ℤ) × (o ≡ Some f) × (p ≡ Some hs) × (f ∷ hs ≡ fs)
+listed_step None p fs e = absurd cc
+listed_step (Some f) None fs e = absurd cc
+listed_step (Some f) (Some hs) fs e = (f, hs, refl, refl, cc)
 
 -- where each word is a figure, those at the front are all of them
-leading_more : (f : ℤ) (o : Option (List ℤ)) (fs gs : List ℤ) → ((hs : List ℤ) → o ≡ Some hs → gs ≡ hs) → and_then o (λ hs. Some (f ∷ hs)) ≡ Some fs → f ∷ gs ≡ fs
-leading_more f None fs gs h e = absurd (let z : ◌≡◌ {A = ℕ} 0 1 = cc in omega arith)
-leading_more f (Some hs) fs gs h e = let g : gs ≡ hs = h hs refl in cc
-
-leading_step : (o : Option ℤ) (p : Option (List ℤ)) (fs gs : List ℤ) → ((hs : List ℤ) → p ≡ Some hs → gs ≡ hs) → and_then o (λ f. and_then p (λ hs. Some (f ∷ hs))) ≡ Some fs → front_if o gs ≡ fs
-leading_step None p fs gs h e = absurd (let z : ◌≡◌ {A = ℕ} 0 1 = cc in omega arith)
-leading_step (Some f) p fs gs h e = leading_more f p fs gs h e
-
-leading_all : (ws : List (List ℕ)) (fs : List ℤ) → figures_of ws ≡ Some fs → leading ws ≡ fs
+listed_all : (ws : List (List ℕ)) (fs : List ℤ) → figures_of ws ≡ Some fs → (leading ws ≡ fs) × (length ws ≡ length fs)
 unfolding figures_of
-leading_all [] fs e = cc
-leading_all (w ∷ ws) fs e = leading_step (figure_of w) (figures_of ws) fs (leading ws) (leading_all ws) e
+listed_all [] fs e = let none : [] ≡ fs = cc in (none, ap length none)
+listed_all (w ∷ ws) fs e =
+    let s = listed_step (figure_of w) (figures_of ws) fs e in
+    let rest = listed_all ws s.1 s.3 in
+    (rw (s.2, rest.0) s.4, ap suc rest.1 ∙ ap length s.4)
 
-pub written_listed : (ws : List (List ℕ)) (place : List ℤ) (n : ℕ) → Some n ≡ count_of (figures_of ws) → written (leading ws) place ≡ place_after (figures_of ws) place
-written_listed ws place n e = go (figures_of ws) refl e
+-- what is known where each of some words is a figure
+pub record Listed (ws : List (List ℕ)) (place : List ℤ) : Type 0 where
+  pub count : Some (length ws) ≡ count_of (figures_of ws)
+  pub place_is : written (leading ws) place ≡ place_after (figures_of ws) place
+
+pub listed : (ws : List (List ℕ)) (place : List ℤ) → true ≡ is_some (figures_of ws) → Listed ws place
+listed ws place some = go (figures_of ws) refl some
   where
-    go : (o : Option (List ℤ)) → figures_of ws ≡ o → Some n ≡ count_of o → written (leading ws) place ≡ place_after o place
-    go None is c = absurd (let z : ◌≡◌ {A = ℕ} 0 1 = cc in omega arith)
-    go (Some fs) is c = ap (λ gs. written gs place) (leading_all ws fs is)
-
-pub place_kept : (o : Option (List ℤ)) (place : List ℤ) → None ≡ count_of o → place ≡ place_after o place
-place_kept None place e = refl
-place_kept (Some fs) place e = absurd (let z : ◌≡◌ {A = ℕ} 0 1 = cc in omega arith)
+    go : (o : Option (List ℤ)) → figures_of ws ≡ o → true ≡ is_some o → Listed ws place
+    go None is e = absurd cc
+    go (Some fs) is e =
+        let all = listed_all ws fs is in
+        record { count = rw is (ap Some all.1); place_is = rw is (ap (λ gs. written gs place) all.0) }

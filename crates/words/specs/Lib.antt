@@ -4,3 +4,4 @@ pub mod Spellings
 pub mod Arguments
 pub mod Grammar
 pub mod Lines
+pub mod Cursor

@@ -9,8 +9,9 @@
 --     not_empty       whether a text has any bytes
 --     words_of        the words of a line: its pieces at gaps that are not empty
 --     NextWord        a word is taken off the front of a text: none is left, or it is the first, and the others stay
-use Rattle.std.specs.Prelude.{◌≡◌, ℕ, Bool, true, false, cond, ◌||◌, List, [], ◌∷◌, Some, None, filter, Option, ◌==◌}
+use Rattle.std.specs.Prelude.{◌≡◌, ℕ, Bool, true, false, cond, ◌||◌, List, [], ◌∷◌, filter, Option, ◌==◌}
 use Rattle.std.specs.Borrow.{Bor}
+use Rattle.std.specs.Iterator.{YieldsFirstRef}
 
 abbrev pub is_in : List ℕ → ℕ → Bool
 is_in [] b = false
@@ -51,5 +52,4 @@ unfoldable pub words_of : List ℕ → List (List ℕ)
 words_of bs = filter not_empty (pieces gaps bs)
 
 abbrev pub NextWord : List ℕ → Option (Bor (List ℕ)) → List ℕ → Type 0
-NextWord text None left = (words_of text ≡ []) × (words_of left ≡ [])
-NextWord text (Some w) left = words_of text ≡ w.now ∷ words_of left
+NextWord = YieldsFirstRef words_of

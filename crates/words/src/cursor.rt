@@ -1,34 +1,20 @@
 // How a line is cut into words.
 ghost use Rattle.std.specs.Prelude.{◌≡◌};
-ghost use Rattle.words.specs.Words.{begins, is_in, Cut, NextWord};
+ghost use Rattle.std.specs.Iterator.{item_count};
+ghost use Rattle.words.specs.Words.{Cut, NextWord};
+ghost use Rattle.words.specs.Cursor.{words_left};
 
 // The bytes that stand between words: a space, a tab, a carriage return.
 const GAPS: &[u8] = b" \t\r";
-
-// Whether `byte` is the first of `text`.
-pub(crate) fn begins_with(text: &[u8], byte: u8) -> bool
-    ensures { result ≡ begins byte text.now }
-{
-    text.len() > 0 && text[0] == byte
-}
-
-// Whether `byte` is one of the marks.
-fn is_mark(byte: u8, marks: &[u8]) -> bool
-    ensures { result ≡ is_in marks.now byte }
-{
-    marks.contains(&byte)
-}
 
 // What stands before the first of the marks, and what stands after it.
 pub(crate) fn cut<'a>(text: &'a [u8], marks: &[u8]) -> (&'a [u8], &'a [u8])
     ensures { Cut marks.now text.now result.0.now result.1.now }
 {
-    for (i, byte) in text.iter().enumerate() {
-        if is_mark(*byte, marks) {
-            return (&text[0..i], &text[i + 1..]);
-        }
+    match text.iter().position(|byte| marks.contains(byte)) {
+        Some(i) => (&text[..i], &text[i + 1..]),
+        None => (text, b""),
     }
-    (text, b"")
 }
 
 // The words of a line, from the first that was not handed out yet.
@@ -43,15 +29,21 @@ impl<'a> Words<'a> {
     {
         Words { rest: line }
     }
+}
+
+impl<'a> Iterator for Words<'a> {
+    type Item = &'a [u8];
+
+    ghost next_gives = { λ words word left. NextWord words.rest.now word left.rest.now };
+
+    ghost remaining = { item_count words_left };
 
     // The next word, as a part of the line; none after the last.
-    pub fn next_word(&mut self) -> Option<&'a [u8]>
-        ensures { NextWord self.old.rest.now result self.new.rest.now }
-    {
-        while self.rest.len() > 0 {
+    fn next(&mut self) -> Option<&'a [u8]> {
+        while !self.rest.is_empty() {
             let (word, rest) = cut(self.rest, GAPS);
             self.rest = rest;
-            if word.len() > 0 {
+            if !word.is_empty() {
                 return Some(word);
             }
         }

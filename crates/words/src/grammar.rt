@@ -1,12 +1,12 @@
 // What a line says: the calls that are understood, each with the words that may stand behind its name.
 ghost use Rattle.std.specs.Prelude.{◌≡◌};
-ghost use Rattle.words.specs.Words.{words_of};
+ghost use Rattle.words.specs.Cursor.{words_left};
 ghost use Rattle.words.specs.Arguments.{place_after};
 ghost use Rattle.words.specs.Grammar.{call_of, only, kinds_of, set_of, note_of, table_of, multipliers_of, listed_for, call_line, call_listed, line_of, listed_of};
 
 use crate::arguments::list_figures;
-use crate::cursor::{Words, begins_with};
-use crate::spellings::{PenaltyWord, RoughnessWord, is_spelt};
+use crate::cursor::Words;
+use crate::spellings::{PenaltyWord, RoughnessWord};
 
 // One line of text. The figures are as they stand in the text: whoever uses them says which are allowed.
 #[derive(Clone, Copy, PartialEq, Eq, Debug)]
@@ -28,6 +28,7 @@ pub enum Line {
         weight: i64,
     },
     // `count` figures
+    // Kept so: without a heap they stand in a place that the caller lends, and there can be more than it holds.
     Table {
         count: usize,
     },
@@ -54,37 +55,29 @@ enum Call {
 fn call_named(word: &[u8]) -> Option<Call>
     ensures { result ≡ call_of word.now }
 {
-    if is_spelt(word, b"kinds") {
-        Some(Call::Kinds)
-    } else if is_spelt(word, b"set") {
-        Some(Call::Set)
-    } else if is_spelt(word, b"note") {
-        Some(Call::Note)
-    } else if is_spelt(word, b"table") {
-        Some(Call::Table)
-    } else if is_spelt(word, b"multipliers") {
-        Some(Call::Multipliers)
-    } else {
-        None
+    match word {
+        b"kinds" => Some(Call::Kinds),
+        b"set" => Some(Call::Set),
+        b"note" => Some(Call::Note),
+        b"table" => Some(Call::Table),
+        b"multipliers" => Some(Call::Multipliers),
+        _ => None,
     }
 }
 
 // `line`, if no word is left.
 fn closed(mut words: Words, line: Line) -> Option<Line>
-    ensures { result ≡ only (words_of words.entry.rest.now) line }
+    ensures { result ≡ only (words_left words.entry) line }
 {
-    match words.next_word() {
-        None => Some(line),
-        Some(_) => None,
-    }
+    words.next().is_none().then_some(line)
 }
 
 fn read_kinds(mut words: Words) -> Option<Line>
-    ensures { result ≡ kinds_of (words_of words.entry.rest.now) }
+    ensures { result ≡ kinds_of (words_left words.entry) }
 {
-    let roughness = words.next_roughness()?;
-    let misfit = words.next_penalty()?;
-    let bend = words.next_penalty()?;
+    let roughness = words.next_as()?;
+    let misfit = words.next_as()?;
+    let bend = words.next_as()?;
     closed(
         words,
         Line::Kinds {
@@ -96,10 +89,10 @@ fn read_kinds(mut words: Words) -> Option<Line>
 }
 
 fn read_set(mut words: Words) -> Option<Line>
-    ensures { result ≡ set_of (words_of words.entry.rest.now) }
+    ensures { result ≡ set_of (words_left words.entry) }
 {
-    let stiffness = words.next_figure()?;
-    let allowance = words.next_figure()?;
+    let stiffness = words.next_as()?;
+    let allowance = words.next_as()?;
     closed(
         words,
         Line::Set {
@@ -110,11 +103,11 @@ fn read_set(mut words: Words) -> Option<Line>
 }
 
 fn read_note(mut words: Words) -> Option<Line>
-    ensures { result ≡ note_of (words_of words.entry.rest.now) }
+    ensures { result ≡ note_of (words_left words.entry) }
 {
-    let minute = words.next_figure()?;
-    let crude = words.next_figure()?;
-    let weight = words.next_figure()?;
+    let minute = words.next_as()?;
+    let crude = words.next_as()?;
+    let weight = words.next_as()?;
     closed(
         words,
         Line::Note {
@@ -126,26 +119,27 @@ fn read_note(mut words: Words) -> Option<Line>
 }
 
 fn read_table(words: Words, figures: &mut [i64]) -> Option<Line>
-    ensures line { result ≡ table_of (words_of words.entry.rest.now) }
-    ensures place { figures.new ≡ place_after (listed_for Call.Table (words_of words.entry.rest.now)) figures.old }
+    ensures line { result ≡ table_of (words_left words.entry) }
+    ensures place { figures.new ≡ place_after (listed_for Call.Table (words_left words.entry)) figures.old }
 {
     let count = list_figures(words, figures)?;
     Some(Line::Table { count })
 }
 
 fn read_multipliers(mut words: Words, figures: &mut [i64]) -> Option<Line>
-    ensures line { result ≡ multipliers_of (words_of words.entry.rest.now) }
-    ensures place { figures.new ≡ place_after (listed_for Call.Multipliers (words_of words.entry.rest.now)) figures.old }
+    ensures line { result ≡ multipliers_of (words_left words.entry) }
+    ensures place { figures.new ≡ place_after (listed_for Call.Multipliers (words_left words.entry)) figures.old }
 {
-    let denominator = words.next_figure()?;
+    let denominator = words.next_as()?;
     let count = list_figures(words, figures)?;
     Some(Line::Multipliers { denominator, count })
 }
 
+// Kept so: two of the five readers write figures, so the place is a parameter of theirs and no field with the words.
 // The line that a call's name and the words behind it give, if they give one.
 fn read_call(name: &[u8], words: Words, figures: &mut [i64]) -> Option<Line>
-    ensures line { result ≡ call_line name.now (words_of words.entry.rest.now) }
-    ensures place { figures.new ≡ place_after (call_listed name.now (words_of words.entry.rest.now)) figures.old }
+    ensures line { result ≡ call_line name.now (words_left words.entry) }
+    ensures place { figures.new ≡ place_after (call_listed name.now (words_left words.entry)) figures.old }
 {
     match call_named(name)? {
         Call::Kinds => read_kinds(words),
@@ -163,14 +157,11 @@ pub fn read_line(line: &[u8], figures: &mut [i64]) -> Line
     ensures place { figures.new ≡ place_after (listed_of line.now) figures.old }
 {
     let mut words = Words::new(line);
-    let Some(name) = words.next_word() else {
+    let Some(name) = words.next() else {
         return Line::Blank;
     };
-    if begins_with(name, b'#') {
+    if name.starts_with(b"#") {
         return Line::Blank;
     }
-    match read_call(name, words, figures) {
-        Some(said) => said,
-        None => Line::Unknown,
-    }
+    read_call(name, words, figures).unwrap_or(Line::Unknown)
 }

@@ -1,5 +1,6 @@
 // The lines of a text.
-ghost use Rattle.std.specs.Prelude.{◌≡◌};
+ghost use Rattle.std.specs.Prelude.{◌≡◌, length};
+ghost use Rattle.std.specs.Iterator.{at_most};
 ghost use Rattle.words.specs.Lines.{NextLine};
 
 use crate::cursor::cut;
@@ -19,12 +20,18 @@ impl<'a> Lines<'a> {
     {
         Lines { rest: text }
     }
+}
+
+impl<'a> Iterator for Lines<'a> {
+    type Item = &'a [u8];
+
+    ghost next_gives = { λ lines line left. NextLine lines.rest.now line left.rest.now };
+
+    ghost remaining = { λ lines. at_most (length lines.rest.now) };
 
     // The next line without its end, as a part of the text; none after the last. The last line may lack its end.
-    pub fn next_line(&mut self) -> Option<&'a [u8]>
-        ensures { NextLine self.old.rest.now result self.new.rest.now }
-    {
-        if self.rest.len() == 0 {
+    fn next(&mut self) -> Option<&'a [u8]> {
+        if self.rest.is_empty() {
             return None;
         }
         let (line, rest) = cut(self.rest, END);

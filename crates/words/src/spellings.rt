@@ -1,7 +1,6 @@
 // The words that name a kind of roughness or a kind of penalty.
 ghost use Rattle.std.specs.Prelude.{◌≡◌};
-ghost use Rattle.std.specs.Str.{bytes_eq};
-ghost use Rattle.words.specs.Spellings.{roughness_of, penalty_of};
+ghost use Rattle.words.specs.Spellings.{roughness_of, sides_of, penalty_of};
 
 use crate::cursor::cut;
 use crate::figures::figure;
@@ -20,49 +19,38 @@ pub enum PenaltyWord {
     Lopsided { rise: i64, fall: i64 },
 }
 
-// Whether `word` is spelt so.
-pub(crate) fn is_spelt(word: &[u8], spelling: &[u8]) -> bool
-    ensures { result ≡ bytes_eq word.now spelling.now }
-{
-    word == spelling
-}
-
 // The roughness that `word` names, if it names one.
 pub fn roughness(word: &[u8]) -> Option<RoughnessWord>
     ensures { result ≡ roughness_of word.now }
 {
-    if is_spelt(word, b"first") {
-        Some(RoughnessWord::First(0))
-    } else if is_spelt(word, b"first+1") {
-        Some(RoughnessWord::First(1))
-    } else if is_spelt(word, b"first+2") {
-        Some(RoughnessWord::First(2))
-    } else if is_spelt(word, b"first+3") {
-        Some(RoughnessWord::First(3))
-    } else if is_spelt(word, b"slope") {
-        Some(RoughnessWord::Slope(0))
-    } else if is_spelt(word, b"slope+1") {
-        Some(RoughnessWord::Slope(1))
-    } else if is_spelt(word, b"slope+2") {
-        Some(RoughnessWord::Slope(2))
-    } else {
-        None
+    match word {
+        b"first" => Some(RoughnessWord::First(0)),
+        b"first+1" => Some(RoughnessWord::First(1)),
+        b"first+2" => Some(RoughnessWord::First(2)),
+        b"first+3" => Some(RoughnessWord::First(3)),
+        b"slope" => Some(RoughnessWord::Slope(0)),
+        b"slope+1" => Some(RoughnessWord::Slope(1)),
+        b"slope+2" => Some(RoughnessWord::Slope(2)),
+        _ => None,
     }
+}
+
+// The lopsided penalty with two sides, if these are a figure, a colon and a figure.
+fn lopsided(sides: &[u8]) -> Option<PenaltyWord>
+    ensures { result ≡ sides_of sides.now }
+{
+    let (before, after) = cut(sides, b":");
+    let rise = figure(before)?;
+    let fall = figure(after)?;
+    Some(PenaltyWord::Lopsided { rise, fall })
 }
 
 // The penalty that `word` names, if it names one.
 pub fn penalty(word: &[u8]) -> Option<PenaltyWord>
     ensures { result ≡ penalty_of word.now }
 {
-    if is_spelt(word, b"absolute") {
+    if word == b"absolute".as_slice() {
         return Some(PenaltyWord::Absolute);
     }
-    let (kind, sides) = cut(word, b":");
-    if !is_spelt(kind, b"lopsided") {
-        return None;
-    }
-    let (before, after) = cut(sides, b":");
-    let rise = figure(before)?;
-    let fall = figure(after)?;
-    Some(PenaltyWord::Lopsided { rise, fall })
+    lopsided(word.strip_prefix(b"lopsided:")?)
 }

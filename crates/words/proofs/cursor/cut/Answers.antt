@@ -1,18 +1,18 @@
-use Rattle.std.proofs.Common.{◌+◌, sym}
-use native.Mathlib.Nat.{sub-zero}
+use Rattle.std.proofs.Common.{◌≡◌, ◌+◌, sym, ◌∙◌, rules, tests}
+use Rattle.std.proofs.lemmas.Iterator.{YieldsList-from_slice}
+use Rattle.std.proofs.lemmas.Iterator.Search.{position_from_yields_List}
 use Rattle.std.proofs.lemmas.List.{take_rest}
-use Rattle.words.proofs.Cutting.{passed_none, passed_more, passed_mark, passed_all}
+use Rattle.words.proofs.Cutting.{mark_in, first_mark, cut_found, cut_missed}
 use Rattle.words.proofs.cursor.cut.Goals as goal
 
-pub loop-i-init : goal.loop-i-init
-loop-i-init c = passed_none _ _
+pub returns-in-Some : goal.returns-in-Some
+returns-in-Some c =
+    let found : c.position.result ≡ first_mark c.args.marks.now c.args.text.now =
+    position_from_yields_List (mark_in c.args.marks.now) _ _ c.position.result c.position.ensures.ran (YieldsList-from_slice _ c.iter.ensures.rest) (λ x b q k. search (rules, tests)) in
+    rw (take_rest c.args.text.now (c.in-Some.i + 1)) (cut_found _ _ _ (sym found ∙ c.in-Some.is))
 
-pub loop-i-preserved : goal.loop-i-preserved
-loop-i-preserved c = passed_more _ _ _ c.loop-i-test.true (sym c.if-is_mark.ensures) c.loop-i.invariant
-
-pub returns-then-is_mark : goal.returns-then-is_mark
-returns-then-is_mark c =
-    rw (sub-zero, take_rest c.args.text.now (c.loop-i.i + 1)) (passed_mark _ _ _ c.loop-i.invariant c.loop-i-test.true (sym c.if-is_mark.ensures))
-
-pub returns : goal.returns
-returns c = passed_all _ _ _ c.loop-i.invariant c.loop-i-test.false
+pub returns-in-None : goal.returns-in-None
+returns-in-None c =
+    let found : c.position.result ≡ first_mark c.args.marks.now c.args.text.now =
+    position_from_yields_List (mark_in c.args.marks.now) _ _ c.position.result c.position.ensures.ran (YieldsList-from_slice _ c.iter.ensures.rest) (λ x b q k. search (rules, tests)) in
+    cut_missed _ _ (sym found ∙ c.in-None.is)

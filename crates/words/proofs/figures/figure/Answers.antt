@@ -1,29 +1,32 @@
-use Rattle.std.proofs.Common.{◌≡◌, ◌-◌, ◌^◌, ◌≤◌, drop, pos, neg_ℤ, Some, None, sym, ap, ◌∙◌, arith, w64, SFits, rules}
-use Rattle.std.proofs.lemmas.List.{take_rest}
-use Rattle.std.proofs.lemmas.Int.{to_z-of_z, to_z_pos}
+use Rattle.std.proofs.Common.{◌≡◌, ◌-◌, ◌^◌, drop, pos, ◌+ℤ◌, ◌-ℤ◌, Some, None, sym, ◌∙◌, arith}
+use Rattle.std.proofs.lemmas.Int.{ints}
 use Rattle.words.specs.Figures.{size_of}
-use Rattle.words.proofs.Decimal.{given_sign, size_le, figure_minus, figure_plain}
+use Rattle.words.proofs.Spelling.{strip_begins}
+use Rattle.words.proofs.Decimal.{minus_missed, minus_sized, plain_missed, plain_sized}
 use Rattle.words.proofs.figures.figure.Goals as goal
 
-pub returns-in_err-below : goal.returns-in_err-below
-returns-in_err-below c =
+pub returns-in_err-size-in-Some : goal.returns-in_err-size-in-Some
+returns-in_err-size-in-Some c =
     let w = c.args.word.now in
-    let none : None ≡ size_of (2 ^ 63) (drop 1 w) = rw (take_rest w 1) at c.in_err-below.ensures in
-    c.from_residual.ensures ∙ ap (given_sign (λ n. neg_ℤ (pos n))) none ∙ figure_minus w (sym c.if-begins_with.ensures)
+    let cases = c.in-Some.ensures.cases in
+    let none : None ≡ size_of (2 ^ 64 - 1) (drop 1 w) = rw cases.1 at c.in_err-size-in-Some.ensures in
+    c.from_residual.ensures ∙ minus_missed w (sym cases.0 ∙ strip_begins 45 w) none
 
-pub returns-in_ok-below : goal.returns-in_ok-below
-returns-in_ok-below c =
+pub returns-in_ok-size-in-Some : goal.returns-in_ok-size-in-Some
+returns-in_ok-size-in-Some c =
     let w = c.args.word.now in
-    let f : SFits w64 c.negative.result = search rules in
-    let some : Some c.in_ok-below.below ≡ size_of (2 ^ 63) (drop 1 w) = rw (take_rest w 1) at c.in_ok-below.ensures in
-    ap Some (to_z-of_z w64 c.negative.result f ∙ c.negative.ensures) ∙ ap (given_sign (λ n. neg_ℤ (pos n))) some ∙ figure_minus w (sym c.if-begins_with.ensures)
+    let cases = c.in-Some.ensures.cases in
+    let n = c.in_ok-size-in-Some.field-0 in
+    let some : Some n ≡ size_of (2 ^ 64 - 1) (drop 1 w) = rw cases.1 at c.in_ok-size-in-Some.ensures in
+    minus_sized w (sym cases.0 ∙ strip_begins 45 w) n some (pos 0 -ℤ pos n) (omega (arith, ints)) _ c.checked_sub_unsigned.ensures
 
-pub returns-in_err-above : goal.returns-in_err-above
-returns-in_err-above c =
-    c.from_residual-in_err-above.ensures ∙ ap (given_sign pos) c.in_err-above.ensures ∙ figure_plain _ (sym c.if-begins_with.ensures)
+pub returns-in_err-size-in-None : goal.returns-in_err-size-in-None
+returns-in_err-size-in-None c =
+    let w = c.args.word.now in
+    c.from_residual-in_err-size-in-None.ensures ∙ plain_missed w (sym c.in-None.ensures.cases ∙ strip_begins 45 w) c.in_err-size-in-None.ensures
 
-pub returns-in_ok-above : goal.returns-in_ok-above
-returns-in_ok-above c =
-    let some = c.in_ok-above.ensures in
-    let small : c.in_ok-above.above ≤ 2 ^ 63 - 1 = size_le _ c.args.word.now _ some in
-    ap Some (to_z_pos w64 c.in_ok-above.above (omega arith)) ∙ ap (given_sign pos) some ∙ figure_plain _ (sym c.if-begins_with.ensures)
+pub returns-in_ok-size-in-None : goal.returns-in_ok-size-in-None
+returns-in_ok-size-in-None c =
+    let w = c.args.word.now in
+    let n = c.in_ok-size-in-None.field-0 in
+    plain_sized w (sym c.in-None.ensures.cases ∙ strip_begins 45 w) n c.in_ok-size-in-None.ensures (pos 0 +ℤ pos n) (omega (arith, ints)) _ c.checked_add_unsigned.ensures

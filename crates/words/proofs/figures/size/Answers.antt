@@ -1,32 +1,27 @@
-use Rattle.std.proofs.Common.{sym, arith}
-use Rattle.words.proofs.Decimal.{summed_none, summed_more, summed_least, size_not_digit, size_all, size_empty, size_large}
+use Rattle.std.proofs.Common.{◌≡◌, ◌+◌, ◌-◌, ◌*◌, ◌<◌, length, get_or, ◌∙◌, sym, arith}
+use Rattle.std.proofs.lemmas.Bool.Decides.{nat_tests}
+use Rattle.words.proofs.Decimal.{summed_more, summed_least, size_all, size_large}
 use Rattle.words.proofs.figures.size.Goals as goal
-use Rattle.words.proofs.figures.size.Goals.{then-not-is_digit-via-then-not-is_digit, then-not-is_digit-via-else-not-is_digit+then-sum-limit}
 
-pub returns-then-digits-eq0 : goal.returns-then-digits-eq0
-returns-then-digits-eq0 c = size_empty _ _ c.if-digits-eq0.true
+pub returns-in_err-checked_mul : goal.returns-in_err-checked_mul
+returns-in_err-checked_mul c =
+    let more = summed_more _ _ _ c.loop-digit.invariant.0 c.loop-digit-test.true (sym c.if-not-is_ascii_digit.ensures.value) in
+    c.from_residual.ensures ∙ size_large _ c.args.digits.now (omega (arith, c.in_err-checked_mul.ensures, summed_least _ _ _ more))
 
-pub loop-byte-init : goal.loop-byte-init
-loop-byte-init c = (summed_none _, omega arith)
+pub returns-in_err-sum : goal.returns-in_err-sum
+returns-in_err-sum c =
+    let more = summed_more _ _ _ c.loop-digit.invariant.0 c.loop-digit-test.true (sym c.if-not-is_ascii_digit.ensures.value) in
+    c.from_residual-in_err-sum.ensures
+    ∙ size_large _ c.args.digits.now (omega (arith, c.in_ok-checked_mul.ensures, c.from.ensures, c.in_err-sum.ensures, summed_least _ _ _ more))
 
-pub returns-then-not-is_digit : goal.returns-then-not-is_digit
-returns-then-not-is_digit c =
-    let s = c.loop-byte.invariant.0 in
-    let lt = c.loop-byte-test.true in
-    elim c.then-not-is_digit.branch [
-      | then-not-is_digit-via-then-not-is_digit w ↦ size_not_digit _ _ _ s _ lt (sym w.if-not-is_digit.ensures)
-      | then-not-is_digit-via-else-not-is_digit+then-sum-limit w ↦
-          size_large c.args.limit c.args.digits.now (omega (arith, w.if-sum-limit.true, summed_least _ _ _ (summed_more _ _ _ s lt (sym w.if-not-is_digit.ensures))))
-    ]
-
-pub returns-then-sum-limit-2 : goal.returns-then-sum-limit-2
-returns-then-sum-limit-2 c =
-    let more = summed_more _ _ _ c.loop-byte.invariant.0 c.loop-byte-test.true (sym c.if-not-is_digit.ensures) in
-    size_large c.args.limit c.args.digits.now (omega (arith, c.if-sum-limit-2.true, summed_least _ _ _ more))
-
-pub loop-byte-preserved : goal.loop-byte-preserved
-loop-byte-preserved c =
-    (summed_more _ _ _ c.loop-byte.invariant.0 c.loop-byte-test.true (sym c.if-not-is_digit.ensures), c.if-sum-limit-2.false)
+pub loop-digit-preserved : goal.loop-digit-preserved
+loop-digit-preserved c =
+    let more = summed_more _ _ _ c.loop-digit.invariant.0 c.loop-digit-test.true (sym c.if-not-is_ascii_digit.ensures.value) in
+    let sum : c.loop-digit.sum * 10 + (get_or c.args.digits.now c.loop-digit.digit-index 0 - 48) ≡ c.in_ok-sum.sum =
+    omega (arith, c.in_ok-checked_mul.ensures, c.from.ensures, c.in_ok-sum.ensures) in
+    (rw sum at more, omega (arith, c.in_ok-sum.ensures))
 
 pub returns : goal.returns
-returns c = size_all _ _ _ c.loop-byte.invariant.0 _ (omega arith) c.loop-byte-test.false c.loop-byte.invariant.1
+returns c =
+    let some : 0 < length c.args.digits.now = grind (arith, nat_tests) in
+    size_all _ _ _ c.loop-digit.invariant.0 _ some c.loop-digit-test.false (omega (arith, c.loop-digit.invariant.1))
