@@ -43,7 +43,7 @@ abbrev pub with_floor : Firing → ℤ → ℤ → Firing
 with_floor f floor d = record f { weighed = record f.weighed { floor = Some (record { value = floor; denominator = d }) } }
 
 abbrev pub gap_over : ℤ → Result Gap Refusal → Option GapOver
-gap_over d (Ok g) = Some (record { gap = g; denominator = unsigned_abs d })
+gap_over d (Ok g) = Some (record { gap = g; denominator = d })
 gap_over d (Err r) = None
 
 abbrev pub gap_told_over : Floor → ℕ → ℤ → Option GapOver

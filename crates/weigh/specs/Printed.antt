@@ -5,10 +5,8 @@
 --     line_text       what such a line came to
 --     reply_text      of a line's answer, or why there is none
 --     side_text       on which side of the allowance a gap lies
---     over_text       a figure over a denominator
---     gap_text        of a gap, over its denominator
 --     tally_text      of a tally
-use Rattle.std.specs.Prelude.{ℕ, cond, List, ◌++◌, ℤ, Ok, Err, Result, codes, unsigned_abs}
+use Rattle.std.specs.Prelude.{ℕ, cond, List, ◌++◌, ℤ, Ok, Err, Result, codes}
 use Rattle.std.specs.Fmt.{decimal, signed_decimal}
 use Rattle.std.specs.List.{flat_map}
 use Rattle.kinds.specs.Refusals.{number_of}
@@ -17,7 +15,6 @@ use Rattle.weigh.specs.declared.answer.Answer.{Answer}
 use Rattle.weigh.specs.declared.answer.Answer.TheVariants.{Done, Table, Multipliers}
 use Rattle.weigh.specs.declared.answer.No.{No}
 use Rattle.weigh.specs.declared.answer.No.TheVariants.{Refused, NotACall}
-use Rattle.weigh.specs.declared.firing.GapOver.{GapOver}
 use Rattle.weigh.specs.declared.report.Reply.{Reply}
 use Rattle.weigh.specs.declared.tally.Tally.{Tally}
 
@@ -42,15 +39,6 @@ reply_text r = line_text r.number r.answer
 
 abbrev pub side_text : Gap → List ℕ
 side_text g = cond g.within (codes "within") (codes "above")
-
--- of the figure's text and the denominator
-abbrev pub over_text : List ℕ → ℕ → List ℕ
-over_text figure d = figure ++ codes "/" ++ decimal d
-
-abbrev pub gap_text : GapOver → List ℕ
-gap_text g =
-    (codes "gap " ++ over_text (signed_decimal g.gap.scaled) g.denominator ++ codes " " ++ side_text g.gap ++ codes " the allowance by ")
-    ++ over_text (decimal (unsigned_abs g.gap.spare)) g.denominator
 
 abbrev pub tally_text : Tally → List ℕ
 tally_text t = decimal t.calls ++ codes " calls, " ++ decimal t.refused ++ codes " refused, " ++ decimal t.unknown ++ codes " lines not understood"

@@ -10,11 +10,11 @@ ghost use Rattle.weigh.specs.Named.{meaning_of};
 ghost use Rattle.weigh.specs.Answered.{done, told_result, said, table_answer, table_leaves, multipliers_answer, multipliers_leave};
 
 use crate::answer::{Answer, No};
-use crate::named::KnownKinds;
 use crate::readings::Readings;
 use kinds::reading::Reading;
 use kinds::refusal::Refusal;
 use kinds::roughness::Roughness;
+use known::trio::KnownKinds;
 use objective::checks::check_settings;
 use objective::gap::{Gap, gap_between};
 use objective::weigh::{weigh_multipliers, weigh_table};
@@ -46,7 +46,7 @@ pub struct Weighed {
 #[derive(Clone, Copy, PartialEq, Eq, Debug)]
 pub struct GapOver {
     pub gap: Gap,
-    pub denominator: u64,
+    pub denominator: i64,
 }
 
 impl Floor {
@@ -54,11 +54,9 @@ impl Floor {
     fn gap(&self, cost: u64, allowance: i64) -> Option<GapOver>
         ensures { result ≡ gap_told_over self.now cost allowance }
     {
-        let gap = gap_between(cost, self.value, self.denominator, allowance).ok()?;
-        Some(GapOver {
-            gap,
-            denominator: self.denominator.unsigned_abs(),
-        })
+        let denominator = self.denominator;
+        let gap = gap_between(cost, self.value, denominator, allowance).ok()?;
+        Some(GapOver { gap, denominator })
     }
 }
 

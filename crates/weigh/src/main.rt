@@ -30,15 +30,14 @@ fn weigh(rt: &HostRuntime, text: &[u8]) -> anyhow::Result<Tally> {
     let mut session = Session::new();
     let mut tally = Tally::new();
     let mut place = [0; 240];
-    let mut number = 0u64;
-    let mut lines = Lines::new(text);
-    while let Some(line) = lines.next_line() {
-        number = number.saturating_add(1);
+    for (before, line) in Lines::new(text).enumerate() {
         let Some(answer) = session.answer(line, &mut place) else {
             continue;
         };
         tally.count(&answer);
-        println!(rt; "{}", Reply { number, answer })?;
+        let number = before.saturating_add(1);
+        let reply = Reply { number, answer };
+        println!(rt; "{reply}")?;
         if answer.is_ok_and(|answer| answer.weighed()) {
             if let Some(gap) = session.gap() {
                 println!(rt; "{gap}")?;

@@ -7,11 +7,9 @@ use crate::answer::No;
 use kinds::refusal::Refusal;
 use known::penalty::KnownPenalty;
 use known::roughness_kind::KnownRoughness;
+use known::trio::KnownKinds;
 use objective::trio::Kinds;
 use words::spellings::{PenaltyWord, RoughnessWord};
-
-// The kinds of a firing that the programs know.
-pub type KnownKinds = Kinds<KnownRoughness, KnownPenalty, KnownPenalty>;
 
 // None where the roughness is raised more often than is known.
 fn roughness_of(word: RoughnessWord) -> Option<KnownRoughness>

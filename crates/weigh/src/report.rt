@@ -11,7 +11,7 @@ use std::fmt;
 // The answer of a line, with its number in the text.
 #[derive(Clone, Copy)]
 pub struct Reply<'a> {
-    pub number: u64,
+    pub number: usize,
     pub answer: Result<Answer<'a>, No>,
 }
 
@@ -74,14 +74,17 @@ impl fmt::Display for Figures<'_> {
     }
 }
 
+// No text is stated: std states none for numbers of 128 bits.
 impl fmt::Display for GapOver {
     fn fmt<W: fmt::Write>(&self, f: &mut fmt::Formatter<W>) -> fmt::Result {
         let GapOver { gap, denominator } = *self;
         let scaled = gap.scaled;
         let side = side(&gap);
         let spare = gap.spare.unsigned_abs();
-        write!(f, "gap {scaled}/{denominator} {side} the allowance by ")?;
-        write!(f, "{spare}/{denominator}")
+        write!(
+            f,
+            "gap {scaled}/{denominator} {side} the allowance by {spare}/{denominator}"
+        )
     }
 }
 
