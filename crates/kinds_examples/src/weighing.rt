@@ -53,7 +53,7 @@ fn a_table_and_its_floor(rt: HostRuntime) -> Result<(), Fail> {
     let gap = gap_between(16, 30, 2, 1)?;
     assert_eq!(rt; gap.scaled, 2);
     assert_eq!(rt; gap.spare, 0);
-    assert!(rt; gap.within);
+    assert!(rt; gap.within());
     Ok(())
 }
 

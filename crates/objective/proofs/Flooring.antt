@@ -76,10 +76,9 @@ columned k law h xs d ms room f small =
     let grown = law.columns_growth (minutes xs) ms (lawful_noted 0 None xs f.noted) count in
     record { long = omega arith; small = omega (arith, mul_most f.grows small) }
 
-pub cut_columns : (k : KindsMeaning) (xs : List Reading) (ms place old : List ℤ) → Columned k xs (columns_of k xs ms) → place ≡ over (columns_of k xs ms) old → take (length xs - 0) place ≡ columns_of k xs ms
+pub cut_columns : (k : KindsMeaning) (xs : List Reading) (ms place old : List ℤ) → Columned k xs (columns_of k xs ms) → place ≡ over (columns_of k xs ms) old → take (length xs) place ≡ columns_of k xs ms
 cut_columns k xs ms place old c e =
-    let long = c.long in
-    ap (take (length xs - 0)) e ∙ take_over (length xs - 0) (columns_of k xs ms) old (omega arith)
+    ap (take (length xs)) e ∙ take_over (length xs) (columns_of k xs ms) old c.long
 
 -- multipliers and columns that passed are lawful
 bends_allow : (p : PenaltyMeaning) (h d i : ℕ) (ms : List ℤ) → first_off_from (p.allows h d) i ms ≡ None → BendsAllow p h d ms

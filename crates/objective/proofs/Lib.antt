@@ -2,6 +2,7 @@ pub mod Duality
 pub mod Noted
 pub mod Searches
 pub mod Slopes
+pub mod Stored
 pub mod Totals
 pub mod Weighing
 pub mod Flooring

@@ -1,6 +1,6 @@
 -- The two maps of a roughness, on readings that have passed their checks.
 --     Mappable          what the readings and the kind are by then
-use Rattle.std.proofs.Common.{◌≡◌, ℕ, ◌-◌, ◌<◌, ◌≤◌, List, length, take, ℤ, None, Ok, Option, Result, ap, ◌∙◌, subst, arith}
+use Rattle.std.proofs.Common.{◌≡◌, ℕ, ◌-◌, ◌<◌, ◌≤◌, List, length, take, ℤ, None, Ok, Option, Result, ap, ◌∙◌, subst, arith, length-take}
 use Rattle.kinds.specs.declared.reading.Reading.{Reading}
 use Rattle.kinds.specs.declared.refusal.Refusal.{Refusal}
 use Rattle.kinds.specs.Checks.{answer}
@@ -15,10 +15,12 @@ use Rattle.objective.proofs.Duality.{length_minutes}
 use Rattle.objective.proofs.Noted.{few, lawful_noted}
 
 -- what is cut from the array of minutes
-pub cut_minutes : (xs : List Reading) (place old : List ℤ) → place ≡ over (minutes xs) old → take (length xs - 0) place ≡ minutes xs
-cut_minutes xs place old e =
-    let long = length_minutes xs in
-    ap (take (length xs - 0)) e ∙ take_over (length xs - 0) (minutes xs) old (omega arith)
+pub cut_minutes : (xs : List Reading) (place old : List ℤ) → place ≡ over (minutes xs) old → take (length xs) place ≡ minutes xs
+cut_minutes xs place old e = ap (take (length xs)) e ∙ take_over (length xs) (minutes xs) old (length_minutes xs)
+
+-- such an array has room for them
+pub cut_fits : (xs : List Reading) (place : List ℤ) → take (length xs) place ≡ minutes xs → length xs ≤ length place
+cut_fits xs place e = omega (arith, length-take (length xs) place, ap length e, length_minutes xs)
 
 pub record Mappable (k : RoughnessMeaning) (xs : List Reading) : Type 0 where
   pub noted : readings_no xs ≡ None

@@ -1,5 +1,5 @@
 -- Slopes that a kind of penalty answers for.
-use Rattle.std.proofs.Common.{◌≡◌, ℕ, ◌+◌, ◌<◌, ◌≤◌, Bool, true, false, cond, List, ◌∷◌, length, get_or, drop, ℤ, pos, neg_ℤ, nat_abs, Some, None, Option, sym, refl, ap, ◌∙◌, arith}
+use Rattle.std.proofs.Common.{◌≡◌, ℕ, ◌+◌, ◌<◌, ◌≤◌, Bool, true, false, cond, List, ◌∷◌, length, get_or, drop, ℤ, pos, neg_ℤ, nat_abs, Some, None, Option, unwrap_or, sym, refl, ap, ◌∙◌, arith, w64, SFits}
 use borrow.Author.Differences.{ints}
 use Rattle.std.proofs.lemmas.List.{drop_more, at_drop_all}
 use Rattle.kinds.specs.declared.reading.Reading.{Reading}
@@ -14,7 +14,7 @@ weight_of w e = grind (arith, ints)
 pub denominator_of : (d : ℤ) → is_denominator d ≡ true → Denominator (nat_abs d)
 denominator_of d e = (grind (arith, ints), grind (arith, ints))
 
-pub slope_told : (p : PenaltyMeaning) (w d s : ℤ) (b : Bool) → Some b ≡ allows_answer p w d s → b ≡ p.allows (nat_abs w) (nat_abs d) s
+slope_told : (p : PenaltyMeaning) (w d s : ℤ) (b : Bool) → Some b ≡ allows_answer p w d s → b ≡ p.allows (nat_abs w) (nat_abs d) s
 slope_told p w d s b e = grind arith
 
 -- a slope that is too large for an answer is not allowed
@@ -30,10 +30,18 @@ by_cases : (b : Bool) → (b ≡ true → ⊥) → false ≡ b
 by_cases true n = absurd (n refl)
 by_cases false n = refl
 
-pub slope_untold : (p : PenaltyMeaning) → PenaltyLaws p → p.steepness ≤ 100 → (w d s : ℤ) → None ≡ allows_answer p w d s → is_weight w ≡ true → is_denominator d ≡ true → false ≡ p.allows (nat_abs w) (nat_abs d) s
+slope_untold : (p : PenaltyMeaning) → PenaltyLaws p → p.steepness ≤ 100 → (w d s : ℤ) → None ≡ allows_answer p w d s → is_weight w ≡ true → is_denominator d ≡ true → false ≡ p.allows (nat_abs w) (nat_abs d) s
 slope_untold p law steep w d s e hw hd =
     let large = too_large p w d s e hw hd in
     by_cases (p.allows (nat_abs w) (nat_abs d) s) (λ a. omega (arith, allowed_most p law steep (nat_abs w) (nat_abs d) (weight_of w hw) (denominator_of d hd) s a))
+
+-- what is answered for a slope, and false where nothing is
+pub slope_or_false : (p : PenaltyMeaning) → PenaltyLaws p → p.steepness ≤ 100 → (w d s : ℤ) (o : Option Bool) → o ≡ allows_answer p w d s → is_weight w ≡ true → is_denominator d ≡ true → unwrap_or o false ≡ p.allows (nat_abs w) (nat_abs d) s
+slope_or_false p law steep w d s None e hw hd = slope_untold p law steep w d s e hw hd
+slope_or_false p law steep w d s (Some b) e hw hd = slope_told p w d s b e
+
+pub denominator_fits : (d : ℤ) → is_denominator d ≡ true → SFits w64 d
+denominator_fits d e = grind (arith, ints)
 
 -- the search through the columns
 module _ (p : PenaltyMeaning) (d i : ℕ) (cs : List ℤ) (xs : List Reading) (found : Option ℕ) (h : i < length cs) (same : length cs ≡ length xs) (inv : first_column_off p d i (drop i cs) (drop i xs) ≡ found) where

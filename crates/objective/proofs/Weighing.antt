@@ -1,18 +1,19 @@
 -- From checks that pass to what the weighing calls promise.
 --     Offered           what a table that passes its checks is
-use Rattle.std.proofs.Common.{◌≡◌, ℕ, ◌+◌, ◌-◌, ◌<◌, ◌≤◌, true, List, [], ◌∷◌, length, take, ℤ, nat_abs, Some, None, Ok, Err, Option, sym, refl, ap, ◌∙◌, arith}
+use Rattle.std.proofs.Common.{◌≡◌, ℕ, ◌+◌, ◌-◌, ◌<◌, ◌≤◌, true, ◌&&◌, eqb, ltb, leb, List, [], ◌∷◌, length, take, ℤ, nat_abs, Some, None, Ok, Err, Option, sym, refl, ap, ◌∙◌, subst, arith}
 use borrow.Author.Differences.{ints}
 use Rattle.kinds.specs.declared.reading.Reading.{Reading}
 use Rattle.kinds.specs.declared.refusal.Cause.{Cause}
-use Rattle.kinds.specs.declared.refusal.Cause.TheVariants.{Value}
+use Rattle.kinds.specs.declared.refusal.Cause.TheVariants.{Length, Value, Denominator as BadDenominator, Multiplier, Short}
 use Rattle.kinds.specs.declared.refusal.Refusal.{Refusal}
-use Rattle.kinds.specs.Checks.{located, or_else, first_off, first_off_from}
+use Rattle.kinds.specs.Checks.{at, unless, located, or_else, first_of, first_off, first_off_from}
+use Rattle.kinds.specs.Penalty.{is_denominator}
 use Rattle.kinds.specs.Figures.{largest, over}
 use Rattle.kinds.specs.Roughness.{RoughnessLaws, told_reach, filled}
 use Rattle.kinds.proofs.Passing.{says_no, says_so}
 use Rattle.kinds.proofs.Places.{take_over}
 use Rattle.kinds.proofs.Ring.{mul_most}
-use Rattle.objective.specs.Checks.{is_value, is_stiffness, stiffness_no, readings_no, table_no, weigh_table_no}
+use Rattle.objective.specs.Checks.{is_value, is_stiffness, stiffness_no, readings_no, kinds_no, begun_no, table_no, weigh_table_no, before_columns_no}
 use Rattle.objective.specs.Objective.{KindsMeaning, minutes, rows_of, cost_of}
 use Rattle.objective.specs.Promises.{WeighsTable}
 use Rattle.objective.proofs.Duality.{length_minutes}
@@ -101,7 +102,39 @@ weighable k h xs vs room e =
     record { stiff = is_stiff h a.0; noted = b.0; offer = offered k (length xs) vs room c.0 }
 
 -- the rows that are read again from the caller's place
-pub cut_rows : (k : KindsMeaning) → RoughnessLaws k.roughness → (xs : List Reading) (vs before after : List ℤ) (count : ℕ) → readings_no xs ≡ None → Offered k (length xs) vs (length before) → after ≡ over (rows_of k xs vs) before → count ≡ length xs - told_reach k.roughness → take (count - 0) after ≡ rows_of k xs vs
+pub cut_rows : (k : KindsMeaning) → RoughnessLaws k.roughness → (xs : List Reading) (vs before after : List ℤ) (count : ℕ) → readings_no xs ≡ None → Offered k (length xs) vs (length before) → after ≡ over (rows_of k xs vs) before → count ≡ length xs - told_reach k.roughness → take count after ≡ rows_of k xs vs
 cut_rows k law xs vs before after count noted o a e =
     let long = (rowed k law xs vs (length before) noted o).long in
-    ap (take (count - 0)) a ∙ take_over (count - 0) (rows_of k xs vs) before (omega arith)
+    ap (take count) a ∙ take_over count (rows_of k xs vs) before (omega arith)
+
+-- the checks that a table and multipliers begin with
+begun_stops : (a b c d rest : Option Refusal) (r : Refusal) → or_else a (or_else b (or_else c (or_else d None))) ≡ Some r → or_else a (or_else b (or_else (or_else c (or_else d rest)) None)) ≡ Some r
+begun_stops (Some x) b c d rest r e = e
+begun_stops None (Some x) c d rest r e = e
+begun_stops None None (Some x) d rest r e = e
+begun_stops None None None (Some x) rest r e = e
+begun_stops None None None None rest r e = cc
+
+short_no : KindsMeaning → List Reading → Option Refusal
+short_no k xs = unless (ltb (told_reach k.roughness) (length xs)) (at Short 0)
+
+pub begun_table : (k : KindsMeaning) (h : ℤ) (xs : List Reading) (vs : List ℤ) (room : ℕ) (r : Refusal) → begun_no k h xs ≡ Some r → weigh_table_no k h xs vs room ≡ Some r
+unfolding short_no
+begun_table k h xs vs room r =
+    begun_stops (stiffness_no h) (readings_no xs) (kinds_no k) (short_no k xs)
+    (first_of (unless (eqb (length vs) (length xs) && leb (length xs - told_reach k.roughness) room) (at Length 0) ∷ located Value (first_off is_value vs) ∷ [])) r
+
+pub begun_multipliers : (k : KindsMeaning) (h : ℤ) (xs : List Reading) (d : ℤ) (ms : List ℤ) (room : ℕ) (r : Refusal) → begun_no k h xs ≡ Some r → before_columns_no k h xs d ms room ≡ Some r
+unfolding short_no
+begun_multipliers k h xs d ms room r =
+    begun_stops (stiffness_no h) (readings_no xs) (kinds_no k) (short_no k xs)
+    (first_of (
+    unless (eqb (length ms) (length xs - told_reach k.roughness) && leb (length xs) room) (at Length 0)
+    ∷ unless (is_denominator d) (at BadDenominator 0)
+    ∷ located Multiplier (first_off (k.bend.allows (nat_abs h) (nat_abs d)) ms)
+    ∷ [])) r
+
+-- what holds of a firing holds of what it was made of
+pub moved : {K : Type 0} (P : K → ℤ → List Reading → Type 0) {k k' : K} {h h' : ℤ} {xs xs' : List Reading} → k ≡ k' → h ≡ h' → xs ≡ xs' → P k h xs → P k' h' xs'
+moved P {k'} {h} {h'} {xs} ek eh ex p =
+    subst (P k' h') ex (subst (λ (z : ℤ). P k' z xs) eh (subst (λ k. P k h xs) ek p))

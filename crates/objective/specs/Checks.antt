@@ -10,6 +10,7 @@
 --     multipliers_no    multipliers for n readings, and a place of `room` figures for their columns; all but the columns
 --     columns_no        the columns; `first_column_off` is the first that is not allowed
 --     stiffness_no      a stiffness alone
+--     begun_no          the checks that tables and multipliers share: of a stiffness, readings and kinds
 --     before_columns_no all checks of multipliers on readings and a stiffness, but for the columns
 --     weigh_table_no, weigh_multipliers_no      all checks of a table, of multipliers, on readings and a stiffness
 use Rattle.std.specs.Prelude.{ℕ, ◌+◌, ◌-◌, Bool, cond, ◌&&◌, List, [], ◌∷◌, length, ℤ, pos, neg_ℤ, Some, None, Option, ◌==◌, int_le, nat_le, nat_lt, unsigned_abs}
@@ -89,6 +90,15 @@ columns_no p d cs xs = located Column (first_column_off p d 0 cs xs)
 
 abbrev pub stiffness_no : ℤ → Option Refusal
 stiffness_no h = unless (is_stiffness h) (at Setting 0)
+
+abbrev pub begun_no : KindsMeaning → ℤ → List Reading → Option Refusal
+begun_no k h xs =
+    first_of (
+    stiffness_no h
+    ∷ readings_no xs
+    ∷ kinds_no k
+    ∷ unless (nat_lt (told_reach k.roughness) (length xs)) (at Short 0)
+    ∷ [])
 
 abbrev pub weigh_table_no : KindsMeaning → ℤ → List Reading → List ℤ → ℕ → Option Refusal
 weigh_table_no k h xs vs room = first_of (stiffness_no h ∷ readings_no xs ∷ table_no k (length xs) vs room ∷ [])

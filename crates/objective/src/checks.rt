@@ -1,10 +1,10 @@
 // The checks of kinds, settings and readings.
 ghost use Rattle.std.specs.Prelude.{◌≡◌};
-ghost use Rattle.kinds.specs.Checks.{answer};
+ghost use Rattle.kinds.specs.Checks.{answer, located};
 ghost use Rattle.objective.specs.Checks.{kinds_no, settings_no, reading_no, readings_no};
-ghost use Rattle.objective.specs.Objective.{three};
 
-use crate::trio::Kinds;
+use crate::ranges::{is_allowance, is_stiffness, is_value};
+use crate::trio::{Kinds, Meant};
 use kinds::minutes::may_come;
 use kinds::penalty::Penalty;
 use kinds::reading::Reading;
@@ -15,16 +15,13 @@ use kinds::roughness::Roughness;
 pub fn check_kinds<R: Roughness, M: Penalty, B: Penalty>(
     kinds: &Kinds<R, M, B>,
 ) -> Result<(), Refusal>
-    ensures { result ≡ answer (kinds_no (three (R.Roughness.meaning kinds.now.roughness) (M.Penalty.meaning kinds.now.misfit) (B.Penalty.meaning kinds.now.bend))) tt }
+    ensures { result ≡ answer (kinds_no (⟦<Kinds<R, M, B> as Meant>⟧.meaning kinds.now)) tt }
 {
     let growth = kinds.roughness.growth();
     let misfit = kinds.misfit.steepness();
     let bend = kinds.bend.steepness();
     if growth > 2000 || misfit > 100 || bend > 100 {
-        return Err(Refusal {
-            cause: Cause::Steep,
-            place: 0,
-        });
+        return Err(Cause::Steep.into());
     }
     Ok(())
 }
@@ -33,11 +30,8 @@ pub fn check_kinds<R: Roughness, M: Penalty, B: Penalty>(
 pub fn check_settings(stiffness: i64, allowance: i64) -> Result<(), Refusal>
     ensures { result ≡ answer (settings_no stiffness allowance) tt }
 {
-    if stiffness < 1 || stiffness > 1000 || allowance < 0 || allowance > 1_000_000_000_000 {
-        return Err(Refusal {
-            cause: Cause::Setting,
-            place: 0,
-        });
+    if !is_stiffness(stiffness) || !is_allowance(allowance) {
+        return Err(Cause::Setting.into());
     }
     Ok(())
 }
@@ -57,7 +51,7 @@ pub fn check_reading(
             place,
         });
     }
-    if reading.crude < 0 || reading.crude > 20_000 || reading.weight < 0 || reading.weight > 100 {
+    if !is_value(reading.crude) || !(0..=100).contains(&reading.weight) {
         return Err(Refusal {
             cause: Cause::Figure,
             place,
@@ -82,4 +76,14 @@ pub fn check_readings(readings: &[Reading]) -> Result<(), Refusal>
         last = Some(reading.minute);
     }
     Ok(())
+}
+
+// A refusal at the place that a search found.
+pub(crate) fn check_found(cause: Cause, found: Option<usize>) -> Result<(), Refusal>
+    ensures { result ≡ answer (located cause found) tt }
+{
+    match found {
+        None => Ok(()),
+        Some(place) => Err(Refusal { cause, place }),
+    }
 }

@@ -2,9 +2,11 @@
 #![tactic(auto)]
 
 pub mod checks;
+mod firing;
 pub mod gap;
-mod offers;
-mod places;
-mod sums;
+mod mild;
+mod multipliers;
+mod ranges;
+mod tables;
 pub mod trio;
 pub mod weigh;

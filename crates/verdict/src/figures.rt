@@ -26,7 +26,7 @@ fn is_within(contents: &Contents) -> bool
     let denominator = contents.head.denominator as i64;
     let allowance = contents.head.allowance as i64;
     match gap_between(contents.cost, contents.floor, denominator, allowance) {
-        Ok(gap) => gap.within,
+        Ok(gap) => gap.within(),
         Err(_) => false,
     }
 }

@@ -1,6 +1,5 @@
 -- What a call answers and leaves, once it is known what its checks say, and the rows and columns that are read again.
 use Rattle.std.proofs.Common.{◌≡◌, ℕ, ◌-◌, List, length, take, ℤ, Some, None, Ok, Err, Option, sym, ap, ◌∙◌, arith}
-use native.Mathlib.Nat.{sub-zero}
 use Rattle.kinds.specs.declared.reading.Reading.{Reading}
 use Rattle.kinds.specs.declared.refusal.Refusal.{Refusal}
 use Rattle.kinds.specs.Checks.{answer}
@@ -33,7 +32,7 @@ module _ {X : Type 0} (checks : Option Refusal) (x : X) where
 -- what a call told, as an answer
 pub told_value : {X : Type 0} (checks : Option Refusal) (x v : X) → Ok x ≡ answer checks v → x ≡ v
 told_value None x v e = cc
-told_value (Some r) x v e = absurd (let z : ◌≡◌ {A = ℕ} 0 1 = cc in omega arith)
+told_value (Some r) x v e = cc
 
 pub law_of : (k : KnownRoughness) → RoughnessLaws (roughness_meaning k)
 law_of (First k) = first_kept
@@ -51,8 +50,7 @@ place_filled checks new before after e p = p ∙ ap (λ (c : Option Refusal). fi
 pub rows_again : (k : KindsMeaning) → RoughnessLaws k.roughness → (h : ℤ) (xs : List Reading) (vs before after : List ℤ) (count : ℕ) → weigh_table_no k h xs vs (length before) ≡ None → after ≡ filled (weigh_table_no k h xs vs (length before)) (rows_of k xs vs) before → count ≡ length xs - told_reach k.roughness → take count after ≡ rows_of k xs vs
 rows_again k law h xs vs before after count e p n =
     let w = weighable k h xs vs (length before) e in
-    sym (ap (λ (m : ℕ). take m after) (sub-zero count))
-    ∙ cut_rows k law xs vs before after count w.noted w.offer (place_filled _ _ before after e p) n
+    cut_rows k law xs vs before after count w.noted w.offer (place_filled _ _ before after e p) n
 
 pub columns_long : (k : KindsMeaning) → RoughnessLaws k.roughness → (h d : ℕ) (xs : List Reading) (ms : List ℤ) → LawfulMultipliers k h d xs ms → length (columns_of k xs ms) ≡ length xs
 columns_long k law h d xs ms w = law.columns_length (minutes xs) ms (w.count ∙ sym (length_minutes xs)) ∙ length_minutes xs

@@ -6,7 +6,7 @@
 --     reply_text      of a line's answer, or why there is none
 --     side_text       on which side of the allowance a gap lies
 --     tally_text      of a tally
-use Rattle.std.specs.Prelude.{ℕ, cond, List, ◌++◌, ℤ, Ok, Err, Result, codes}
+use Rattle.std.specs.Prelude.{ℕ, cond, List, ◌++◌, ℤ, pos, Ok, Err, Result, codes, int_le}
 use Rattle.std.specs.Fmt.{decimal, signed_decimal}
 use Rattle.std.specs.List.{flat_map}
 use Rattle.kinds.specs.Refusals.{number_of}
@@ -38,7 +38,7 @@ abbrev pub reply_text : Reply → List ℕ
 reply_text r = line_text r.number r.answer
 
 abbrev pub side_text : Gap → List ℕ
-side_text g = cond g.within (codes "within") (codes "above")
+side_text g = cond (int_le (pos 0) g.spare) (codes "within") (codes "above")
 
 abbrev pub tally_text : Tally → List ℕ
 tally_text t = decimal t.calls ++ codes " calls, " ++ decimal t.refused ++ codes " refused, " ++ decimal t.unknown ++ codes " lines not understood"

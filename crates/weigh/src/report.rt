@@ -92,7 +92,7 @@ impl fmt::Display for GapOver {
 fn side(gap: &Gap) -> &'static str
     ensures { result.now ≡ side_text gap.now }
 {
-    if gap.within { "within" } else { "above" }
+    if gap.within() { "within" } else { "above" }
 }
 
 impl fmt::Display for Tally {

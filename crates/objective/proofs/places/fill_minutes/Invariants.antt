@@ -1,7 +1,0 @@
-use Rattle.std.proofs.Common.{drop}
-use Rattle.kinds.proofs.Places.{Written}
-use Rattle.objective.specs.Objective.{minutes}
-use Rattle.objective.proofs.places.fill_minutes.Given as goal
-
-abbrev pub invariant-loop-at : goal.invariant-loop-at
-invariant-loop-at l = Written l.at (minutes (drop l.at l.readings)) (minutes l.readings) l.initial.place l.place
