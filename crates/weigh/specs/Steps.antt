@@ -1,8 +1,14 @@
--- What a call leaves, by its checks.
---     EitherWay       one thing where the checks pass, another where they refuse
-use Rattle.std.specs.Prelude.{Some, None, Option}
+-- Readings one after the other.
+--     last_minute     the minute of the last of some readings, if there is one
+--     next_no         the checks of a reading that comes after these
+use Rattle.std.specs.Prelude.{◌-◌, List, length, ℤ, Option, slice_get}
+use Rattle.std.specs.Option.{option_map}
+use Rattle.kinds.specs.declared.reading.Reading.{Reading}
 use Rattle.kinds.specs.declared.refusal.Refusal.{Refusal}
+use Rattle.objective.specs.Checks.{reading_no}
 
-abbrev pub EitherWay : Option Refusal → Type 0 → Type 0 → Type 0
-EitherWay None passed refused = passed
-EitherWay (Some r) passed refused = refused
+abbrev pub last_minute : List Reading → Option ℤ
+last_minute xs = option_map (λ x. x.minute) (slice_get xs (length xs - 1))
+
+abbrev pub next_no : List Reading → Reading → Option Refusal
+next_no xs x = reading_no (length xs) 0 (last_minute xs) x

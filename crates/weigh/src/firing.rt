@@ -1,163 +1,203 @@
-// A firing that is being read: its kinds, settings and readings, and what was weighed last under them.
-ghost use Rattle.std.specs.Prelude.{◌≡◌, ◌+◌, ◌-◌, ◌≤◌, length, take, pos, Some, None, slice_set};
+// A firing that is being read: what is given, and what was weighed last under it.
+ghost use Rattle.std.specs.Prelude.{◌≡◌, ◌-◌, length, OnOk, OnErr};
 ghost use Rattle.kinds.specs.Checks.{answer};
 ghost use Rattle.kinds.specs.Roughness.{told_reach};
-ghost use Rattle.known.specs.Known.{roughness_meaning, penalty_meaning};
-ghost use Rattle.objective.specs.Checks.{settings_no, reading_no};
-ghost use Rattle.objective.specs.Objective.{three};
+ghost use Rattle.objective.specs.Checks.{settings_no};
 ghost use Rattle.objective.specs.Promises.{WeighsTable, WeighsMultipliers};
-ghost use Rattle.weigh.specs.Steps.{EitherWay};
+ghost use Rattle.weigh.specs.Firings.{fresh, gap_told_over, firing_gap, with_settings, with_reading};
+ghost use Rattle.weigh.specs.Steps.{next_no};
+ghost use Rattle.weigh.specs.Named.{meaning_of};
+ghost use Rattle.weigh.specs.Answered.{done, told_result, said, table_answer, table_leaves, multipliers_answer, multipliers_leave};
 
-use crate::named::KnownKinds;
+use crate::answer::{Answer, No};
+use crate::readings::Readings;
 use kinds::reading::Reading;
 use kinds::refusal::Refusal;
 use kinds::roughness::Roughness;
-use objective::checks::{check_reading, check_settings};
+use known::trio::KnownKinds;
+use objective::checks::check_settings;
 use objective::gap::{Gap, gap_between};
 use objective::weigh::{weigh_multipliers, weigh_table};
 
+// What a table and multipliers are weighed under.
+#[derive(Drop)]
+pub struct Given {
+    kinds: KnownKinds,
+    stiffness: i64,
+    allowance: i64,
+    readings: Readings,
+}
+
 // The floor of multipliers, with their denominator.
-#[derive(Clone, Copy)]
-struct Floor {
+#[derive(Clone, Copy, PartialEq, Eq, Debug)]
+pub struct Floor {
     value: i64,
     denominator: i64,
 }
 
-#[derive(Drop)]
-pub struct Firing {
-    kinds: KnownKinds,
-    stiffness: i64,
-    allowance: i64,
-    readings: [Reading; 240],
-    count: usize,
-    // the minute of the last reading
-    last: Option<i64>,
+// What was weighed last.
+#[derive(Clone, Copy, PartialEq, Eq, Debug, Default)]
+pub struct Weighed {
     cost: Option<u64>,
     floor: Option<Floor>,
-    ghost few: { count ≤ 240 },
-    ghost full: { length readings ≡ 240 },
+}
+
+// A gap, over the denominator that it was multiplied by.
+#[derive(Clone, Copy, PartialEq, Eq, Debug)]
+pub struct GapOver {
+    pub gap: Gap,
+    pub denominator: i64,
+}
+
+impl Floor {
+    // How far a cost lies above this floor.
+    fn gap(&self, cost: u64, allowance: i64) -> Option<GapOver>
+        ensures { result ≡ gap_told_over self.now cost allowance }
+    {
+        let denominator = self.denominator;
+        let gap = gap_between(cost, self.value, denominator, allowance).ok()?;
+        Some(GapOver { gap, denominator })
+    }
+}
+
+#[derive(Drop)]
+pub struct Firing {
+    given: Given,
+    weighed: Weighed,
+}
+
+impl Given {
+    // The cost of a table, with its rows at the start of `place`.
+    fn cost(&self, values: &[i64], place: &mut [i64]) -> Result<u64, Refusal>
+        ensures { WeighsTable (meaning_of self.now.kinds) self.now.stiffness self.now.readings values.now place.old place.new result }
+    {
+        weigh_table(
+            &self.kinds,
+            self.stiffness,
+            self.readings.as_slice(),
+            values,
+            place,
+        )
+    }
+
+    // The floor of multipliers, with their columns at the start of `place`.
+    fn floor(
+        &self,
+        denominator: i64,
+        multipliers: &[i64],
+        place: &mut [i64],
+    ) -> Result<i64, Refusal>
+        ensures { WeighsMultipliers (meaning_of self.now.kinds) self.now.stiffness self.now.readings denominator multipliers.now place.old place.new result }
+    {
+        weigh_multipliers(
+            &self.kinds,
+            self.stiffness,
+            self.readings.as_slice(),
+            denominator,
+            multipliers,
+            place,
+        )
+    }
+
+    // How many columns multipliers have.
+    fn columns(&self) -> usize
+        ensures { result ≡ length self.now.readings }
+    {
+        self.readings.as_slice().len()
+    }
+
+    // How many rows a table has.
+    fn rows(&self) -> usize
+        ensures { result ≡ length self.now.readings - told_reach (meaning_of self.now.kinds).roughness }
+    {
+        self.columns().saturating_sub(self.kinds.roughness.reach())
+    }
 }
 
 impl Firing {
     pub(crate) fn new(kinds: KnownKinds) -> Firing
-        ensures { (result.kinds ≡ kinds) × (result.stiffness ≡ pos 1) × (result.allowance ≡ pos 0) × (result.count ≡ 0) × (result.last ≡ None) × (result.cost ≡ None) × (result.floor ≡ None) }
+        ensures { result ≡ fresh kinds }
     {
-        let blank = Reading {
-            minute: 0,
-            crude: 0,
-            weight: 0,
-        };
         Firing {
-            kinds,
-            stiffness: 1,
-            allowance: 0,
-            readings: [blank; 240],
-            count: 0,
-            last: None,
-            cost: None,
-            floor: None,
+            given: Given {
+                kinds,
+                stiffness: 1,
+                allowance: 0,
+                readings: Readings::new(),
+            },
+            weighed: Weighed::default(),
         }
     }
 
-    // Other settings or readings make what was weighed worthless.
-    fn forget(&mut self)
-        ensures weighed { (self.new.cost ≡ None) × (self.new.floor ≡ None) }
-        ensures same { (self.new.kinds ≡ self.old.kinds) × (self.new.stiffness ≡ self.old.stiffness) × (self.new.allowance ≡ self.old.allowance) × (self.new.readings ≡ self.old.readings) × (self.new.count ≡ self.old.count) × (self.new.last ≡ self.old.last) }
-    {
-        self.cost = None;
-        self.floor = None;
-    }
-
-    pub(crate) fn set(&mut self, stiffness: i64, allowance: i64) -> Result<(), Refusal>
-        ensures answered { result ≡ answer (settings_no stiffness allowance) tt }
-        ensures settings { EitherWay (settings_no stiffness allowance) ((self.new.stiffness ≡ stiffness) × (self.new.allowance ≡ allowance)) ((self.new.stiffness ≡ self.old.stiffness) × (self.new.allowance ≡ self.old.allowance)) }
-        ensures weighed { EitherWay (settings_no stiffness allowance) ((self.new.cost ≡ None) × (self.new.floor ≡ None)) ((self.new.cost ≡ self.old.cost) × (self.new.floor ≡ self.old.floor)) }
-        ensures same { (self.new.kinds ≡ self.old.kinds) × (self.new.readings ≡ self.old.readings) × (self.new.count ≡ self.old.count) × (self.new.last ≡ self.old.last) }
+    // Other settings make what was weighed worthless.
+    pub(crate) fn set<'a>(&mut self, stiffness: i64, allowance: i64) -> Result<Answer<'a>, No>
+        ensures answered { told_result result ≡ said (settings_no stiffness allowance) done }
+        ensures ok { OnOk result (self.new ≡ with_settings self.old stiffness allowance) }
+        ensures err { OnErr result (self.new ≡ self.old) }
     {
         check_settings(stiffness, allowance)?;
-        self.stiffness = stiffness;
-        self.allowance = allowance;
-        self.forget();
-        Ok(())
+        self.given.stiffness = stiffness;
+        self.given.allowance = allowance;
+        self.weighed = Weighed::default();
+        Ok(Answer::Done)
     }
 
-    pub(crate) fn note(&mut self, reading: Reading) -> Result<(), Refusal>
-        ensures answered { result ≡ answer (reading_no self.old.count 0 self.old.last reading) tt }
-        ensures readings { EitherWay (reading_no self.old.count 0 self.old.last reading) ((self.new.readings ≡ slice_set self.old.readings self.old.count reading) × (self.new.count ≡ self.old.count + 1) × (self.new.last ≡ Some reading.minute)) ((self.new.readings ≡ self.old.readings) × (self.new.count ≡ self.old.count) × (self.new.last ≡ self.old.last)) }
-        ensures weighed { EitherWay (reading_no self.old.count 0 self.old.last reading) ((self.new.cost ≡ None) × (self.new.floor ≡ None)) ((self.new.cost ≡ self.old.cost) × (self.new.floor ≡ self.old.floor)) }
-        ensures same { (self.new.kinds ≡ self.old.kinds) × (self.new.stiffness ≡ self.old.stiffness) × (self.new.allowance ≡ self.old.allowance) }
+    // And so does one reading more.
+    pub(crate) fn note<'a>(&mut self, reading: Reading) -> Result<Answer<'a>, No>
+        ensures answered { told_result result ≡ said (next_no self.old.given.readings reading) done }
+        ensures ok { OnOk result (self.new ≡ with_reading self.old reading) }
+        ensures err { OnErr result (self.new ≡ self.old) }
     {
-        check_reading(self.count, 0, self.last, &reading)?;
-        self.readings[self.count] = reading;
-        self.count += 1;
-        self.last = Some(reading.minute);
-        self.forget();
-        Ok(())
+        self.given.readings.note(reading)?;
+        self.weighed = Weighed::default();
+        Ok(Answer::Done)
     }
 
-    // How many rows a table has.
-    pub(crate) fn rows(&self) -> usize
-        ensures { result ≡ self.now.count - told_reach (roughness_meaning self.now.kinds.roughness) }
+    // Weighs a table and keeps its cost. The rows stand at the start of `place`.
+    pub(crate) fn table<'a>(
+        &mut self,
+        values: &[i64],
+        place: &'a mut [i64],
+    ) -> Result<Answer<'a>, No>
+        ensures answered { told_result result ≡ table_answer self.old values.now (length place.old) }
+        ensures ok { OnOk result (self.new ≡ table_leaves self.old values.now) }
+        ensures err { OnErr result (self.new ≡ self.old) }
     {
-        self.count.saturating_sub(self.kinds.roughness.reach())
+        let cost = self.given.cost(values, place)?;
+        self.weighed.cost = Some(cost);
+        Ok(Answer::Table {
+            cost,
+            rows: &place[..self.given.rows()],
+        })
     }
 
-    // How many columns multipliers have.
-    pub(crate) fn columns(&self) -> usize
-        ensures { result ≡ self.now.count }
-    {
-        self.count
-    }
-
-    // The cost of a table, with its rows at the start of `rows`.
-    pub(crate) fn table(&self, values: &[i64], rows: &mut [i64]) -> Result<u64, Refusal>
-        ensures { WeighsTable (three (roughness_meaning self.now.kinds.roughness) (penalty_meaning self.now.kinds.misfit) (penalty_meaning self.now.kinds.bend)) self.now.stiffness (take self.now.count self.now.readings) values.now rows.old rows.new result }
-    {
-        let readings = &self.readings[0..self.count];
-        weigh_table(&self.kinds, self.stiffness, readings, values, rows)
-    }
-
-    // The floor of multipliers, with their columns at the start of `columns`.
-    pub(crate) fn multipliers(
-        &self,
+    // Weighs multipliers and keeps their floor. The columns stand at the start of `place`.
+    pub(crate) fn multipliers<'a>(
+        &mut self,
         denominator: i64,
         multipliers: &[i64],
-        columns: &mut [i64],
-    ) -> Result<i64, Refusal>
-        ensures { WeighsMultipliers (three (roughness_meaning self.now.kinds.roughness) (penalty_meaning self.now.kinds.misfit) (penalty_meaning self.now.kinds.bend)) self.now.stiffness (take self.now.count self.now.readings) denominator multipliers.now columns.old columns.new result }
+        place: &'a mut [i64],
+    ) -> Result<Answer<'a>, No>
+        ensures answered { told_result result ≡ multipliers_answer self.old denominator multipliers.now (length place.old) }
+        ensures ok { OnOk result (self.new ≡ multipliers_leave self.old denominator multipliers.now) }
+        ensures err { OnErr result (self.new ≡ self.old) }
     {
-        let readings = &self.readings[0..self.count];
-        weigh_multipliers(
-            &self.kinds,
-            self.stiffness,
-            readings,
+        let floor = self.given.floor(denominator, multipliers, place)?;
+        self.weighed.floor = Some(Floor {
+            value: floor,
             denominator,
-            multipliers,
-            columns,
-        )
+        });
+        Ok(Answer::Multipliers {
+            floor,
+            columns: &place[..self.given.columns()],
+        })
     }
 
-    pub(crate) fn keep_cost(&mut self, cost: u64)
-        ensures kept { (self.new.cost ≡ Some cost) × (self.new.floor ≡ self.old.floor) }
-        ensures same { (self.new.kinds ≡ self.old.kinds) × (self.new.stiffness ≡ self.old.stiffness) × (self.new.allowance ≡ self.old.allowance) × (self.new.readings ≡ self.old.readings) × (self.new.count ≡ self.old.count) × (self.new.last ≡ self.old.last) }
+    // The gap between the table and the multipliers that were weighed last, once both are there.
+    pub(crate) fn gap(&self) -> Option<GapOver>
+        ensures { result ≡ firing_gap self.now }
     {
-        self.cost = Some(cost);
-    }
-
-    pub(crate) fn keep_floor(&mut self, value: i64, denominator: i64)
-        ensures kept { (self.new.floor ≡ Some (record { value = value; denominator = denominator })) × (self.new.cost ≡ self.old.cost) }
-        ensures same { (self.new.kinds ≡ self.old.kinds) × (self.new.stiffness ≡ self.old.stiffness) × (self.new.allowance ≡ self.old.allowance) × (self.new.readings ≡ self.old.readings) × (self.new.count ≡ self.old.count) × (self.new.last ≡ self.old.last) }
-    {
-        self.floor = Some(Floor { value, denominator });
-    }
-
-    // The gap between the table and the multipliers that were weighed last, with their denominator.
-    pub(crate) fn gap(&self) -> Option<(Gap, i64)> {
-        let cost = self.cost?;
-        let floor = self.floor?;
-        match gap_between(cost, floor.value, floor.denominator, self.allowance) {
-            Ok(gap) => Some((gap, floor.denominator)),
-            Err(_) => None,
-        }
+        let cost = self.weighed.cost?;
+        self.weighed.floor?.gap(cost, self.given.allowance)
     }
 }

@@ -1,13 +1,16 @@
 // Reads a firing as text on standard input, weighs its tables and multipliers, and prints what it found.
 #![tactic(auto)]
 
+mod answer;
 mod firing;
 mod named;
+mod readings;
 mod report;
 mod session;
 mod tally;
 
-use anyhow::anyhow;
+use anyhow::ensure;
+use report::Reply;
 use session::Session;
 use std::io::Read;
 use tally::Tally;
@@ -17,10 +20,8 @@ fn main(rt: HostRuntime) -> anyhow::Result<()> {
     let mut text = Vec::new(rt.alloc());
     rt.stdin().read_to_end(&mut text)?;
     let tally = weigh(&rt, text.as_slice())?;
-    report::tally(&rt, tally)?;
-    if tally.unknown > 0 {
-        return Err(anyhow!("some lines were not understood"));
-    }
+    println!(rt; "{tally}")?;
+    ensure!(tally.unknown == 0, "some lines were not understood");
     Ok(())
 }
 
@@ -29,15 +30,17 @@ fn weigh(rt: &HostRuntime, text: &[u8]) -> anyhow::Result<Tally> {
     let mut session = Session::new();
     let mut tally = Tally::new();
     let mut place = [0; 240];
-    let mut number = 0u64;
-    let mut lines = Lines::new(text);
-    while let Some(line) = lines.next_line() {
-        number = number.saturating_add(1);
-        if let Some(answer) = session.answer(line, &mut place) {
-            tally.count(answer);
-            report::answer(rt, number, answer, &place)?;
-            if answer.weighed() {
-                report::gap(rt, session.gap())?;
+    for (before, line) in Lines::new(text).enumerate() {
+        let Some(answer) = session.answer(line, &mut place) else {
+            continue;
+        };
+        tally.count(&answer);
+        let number = before.saturating_add(1);
+        let reply = Reply { number, answer };
+        println!(rt; "{reply}")?;
+        if answer.is_ok_and(|answer| answer.weighed()) {
+            if let Some(gap) = session.gap() {
+                println!(rt; "{gap}")?;
             }
         }
     }

@@ -1,170 +1,127 @@
 // The lines of a text, carried out one after the other on the firing at hand.
-ghost use Rattle.std.specs.Prelude.{◌≡◌, true, length, replicate, pos, is_some, Some, unsigned_abs};
-ghost use Rattle.objective.specs.Objective.{cost_of, floor_of};
+ghost use Rattle.std.specs.Prelude.{◌≡◌, true, length, min, take, replicate, pos, is_some, None, OnOk, OnErr};
 ghost use Rattle.words.specs.Arguments.{place_after};
 ghost use Rattle.words.specs.Grammar.{line_of, listed_of};
-ghost use Rattle.weigh.specs.Answered.{Starts, Answers, kinds_of, noted, table_no, multipliers_no, plain_answer, table_answer, multipliers_answer, line_answer};
-ghost use Rattle.weigh.specs.Counts.{is_weighed};
-ghost use Rattle.weigh.specs.Steps.{EitherWay};
+ghost use Rattle.weigh.specs.Named.{named_kinds};
+ghost use Rattle.weigh.specs.Answered.{told_result, maybe_told, Starts, Answers, line_answer, line_leaves, call_answer, call_leaves};
+ghost use Rattle.weigh.specs.Firings.{gap_at_hand};
 
-use crate::firing::Firing;
+use crate::answer::{Answer, No};
+use crate::firing::{Firing, GapOver};
 use crate::named::kinds_of;
 use kinds::reading::Reading;
-use kinds::refusal::Refusal;
-use objective::gap::Gap;
 use words::grammar::{Line, read_line};
 use words::spellings::{PenaltyWord, RoughnessWord};
 
 // How many figures of a line are kept: one more than any list that could be accepted.
 const MOST: usize = 241;
 
-// What a line came to.
-#[derive(Clone, Copy)]
-pub enum Answer {
-    Done,
-    // the rows of a table are at the start of the place
-    Table { cost: u64, rows: usize },
-    // the columns of multipliers are at the start of the place
-    Multipliers { floor: i64, columns: usize },
-    Refused(Refusal),
-    NotACall,
-}
-
-impl Answer {
-    // Whether a table or multipliers were weighed.
-    pub(crate) fn weighed(self) -> bool
-        ensures { result ≡ is_weighed self }
-    {
-        matches!(self, Answer::Table { .. } | Answer::Multipliers { .. })
-    }
-}
-
-#[derive(Drop)]
+#[derive(Drop, Default)]
 pub struct Session {
     // none before the first kinds
     firing: Option<Firing>,
 }
 
 impl Session {
-    pub(crate) fn new() -> Session {
-        Session { firing: None }
+    pub(crate) fn new() -> Session
+        ensures { result.firing ≡ None }
+    {
+        Session::default()
     }
 
-    // Carries one line out; a blank one has no answer.
-    pub(crate) fn answer(&mut self, line: &[u8], place: &mut [i64]) -> Option<Answer>
+    // Carries one line out; a blank one has no answer. Rows and columns are written into `place`.
+    pub(crate) fn answer<'a>(
+        &mut self,
+        line: &[u8],
+        place: &'a mut [i64],
+    ) -> Option<Result<Answer<'a>, No>>
         ensures stays { is_some self.old.firing ≡ true → is_some self.new.firing ≡ true }
-        ensures answered { Answers self.old.firing (line_of line.now) (place_after (listed_of line.now) (replicate 241 (pos 0))) (length place.old) result }
+        ensures answered { Answers self.old.firing (line_of line.now) (place_after (listed_of line.now) (replicate 241 (pos 0))) (length place.old) (maybe_told result) self.new.firing }
     {
         let mut figures = [0; MOST];
-        let said = read_line(line, &mut figures);
-        if let Line::Blank = said {
-            return None;
+        match read_line(line, &mut figures) {
+            Line::Blank => None,
+            Line::Kinds {
+                roughness,
+                misfit,
+                bend,
+            } => Some(self.start(roughness, misfit, bend)),
+            said => Some(self.call(said, &figures, place)),
         }
-        if let Line::Kinds {
-            roughness,
-            misfit,
-            bend,
-        } = said
-        {
-            return Some(self.start(roughness, misfit, bend));
-        }
-        let Some(mut firing) = self.firing.take() else {
-            return Some(Answer::NotACall);
-        };
-        let answer = carry_out(&mut firing, said, &figures, place);
-        self.firing = Some(firing);
-        Some(answer)
     }
 
     // A new firing, if the kinds are fine; else the one at hand stays.
-    fn start(&mut self, roughness: RoughnessWord, misfit: PenaltyWord, bend: PenaltyWord) -> Answer
-        ensures { Starts self.old.firing result self.new.firing }
+    fn start<'a>(
+        &mut self,
+        roughness: RoughnessWord,
+        misfit: PenaltyWord,
+        bend: PenaltyWord,
+    ) -> Result<Answer<'a>, No>
+        ensures { Starts self.old.firing (named_kinds roughness misfit bend) (told_result result) self.new.firing }
     {
-        match kinds_of(roughness, misfit, bend) {
-            None => Answer::NotACall,
-            Some(Err(refusal)) => Answer::Refused(refusal),
-            Some(Ok(kinds)) => {
-                self.firing = Some(Firing::new(kinds));
-                Answer::Done
-            }
-        }
+        let kinds = kinds_of(roughness, misfit, bend)?;
+        self.firing = Some(Firing::new(kinds));
+        Ok(Answer::Done)
     }
 
-    // The gap of what was weighed last, with its denominator, once both are there.
-    pub(crate) fn gap(&self) -> Option<(Gap, i64)> {
-        match &self.firing {
-            None => None,
-            Some(firing) => firing.gap(),
-        }
+    // What is said of the firing at hand; no call before there is one.
+    fn call<'a>(
+        &mut self,
+        said: Line,
+        figures: &[i64],
+        place: &'a mut [i64],
+    ) -> Result<Answer<'a>, No>
+        ensures answered { told_result result ≡ call_answer self.old.firing said figures.now (length place.old) }
+        ensures ok { OnOk result (self.new.firing ≡ call_leaves self.old.firing said figures.now) }
+        ensures err { OnErr result (self.new.firing ≡ self.old.firing) }
+    {
+        let firing = self.firing.as_mut().ok_or(No::NotACall)?;
+        carry_out(firing, said, figures, place)
+    }
+
+    // The gap between what was weighed last, once both are there.
+    pub(crate) fn gap(&self) -> Option<GapOver>
+        ensures { result ≡ gap_at_hand self.now.firing }
+    {
+        self.firing.as_ref()?.gap()
     }
 }
 
-fn carry_out(firing: &mut Firing, said: Line, figures: &[i64], place: &mut [i64]) -> Answer
-    ensures { result ≡ line_answer firing.old said figures.now (length place.old) }
+// The first `count` figures, or all where there are fewer.
+fn listed(figures: &[i64], count: usize) -> &[i64]
+    ensures { result.now ≡ take (min count (length figures.now)) figures.now }
+{
+    &figures[..count.min(figures.len())]
+}
+
+fn carry_out<'a>(
+    firing: &mut Firing,
+    said: Line,
+    figures: &[i64],
+    place: &'a mut [i64],
+) -> Result<Answer<'a>, No>
+    ensures answered { told_result result ≡ line_answer firing.old said figures.now (length place.old) }
+    ensures ok { OnOk result (firing.new ≡ line_leaves firing.old said figures.now) }
+    ensures err { OnErr result (firing.new ≡ firing.old) }
 {
     match said {
         Line::Set {
             stiffness,
             allowance,
-        } => plain(firing.set(stiffness, allowance)),
+        } => firing.set(stiffness, allowance),
         Line::Note {
             minute,
             crude,
             weight,
-        } => plain(firing.note(Reading {
+        } => firing.note(Reading {
             minute,
             crude,
             weight,
-        })),
-        Line::Table { count } => {
-            let values = &figures[0..count.min(figures.len())];
-            table(firing, values, place)
-        }
+        }),
+        Line::Table { count } => firing.table(listed(figures, count), place),
         Line::Multipliers { denominator, count } => {
-            let multipliers = &figures[0..count.min(figures.len())];
-            multiply(firing, denominator, multipliers, place)
+            firing.multipliers(denominator, listed(figures, count), place)
         }
-        Line::Kinds { .. } | Line::Blank | Line::Unknown => Answer::NotACall,
-    }
-}
-
-fn table(firing: &mut Firing, values: &[i64], place: &mut [i64]) -> Answer
-    ensures answered { result ≡ table_answer firing.old values.now (length place.old) }
-    ensures kept { EitherWay (table_no firing.old values.now (length place.old)) (firing.new.cost ≡ Some (cost_of (kinds_of firing.old) (unsigned_abs firing.old.stiffness) (noted firing.old) values.now)) (firing.new ≡ firing.old) }
-{
-    match firing.table(values, place) {
-        Ok(cost) => {
-            firing.keep_cost(cost);
-            Answer::Table {
-                cost,
-                rows: firing.rows(),
-            }
-        }
-        Err(refusal) => Answer::Refused(refusal),
-    }
-}
-
-fn multiply(firing: &mut Firing, denominator: i64, multipliers: &[i64], place: &mut [i64]) -> Answer
-    ensures answered { result ≡ multipliers_answer firing.old denominator multipliers.now (length place.old) }
-    ensures kept { EitherWay (multipliers_no firing.old denominator multipliers.now (length place.old)) (firing.new.floor ≡ Some (record { value = floor_of (kinds_of firing.old) (noted firing.old) multipliers.now; denominator = denominator })) (firing.new ≡ firing.old) }
-{
-    match firing.multipliers(denominator, multipliers, place) {
-        Ok(floor) => {
-            firing.keep_floor(floor, denominator);
-            Answer::Multipliers {
-                floor,
-                columns: firing.columns(),
-            }
-        }
-        Err(refusal) => Answer::Refused(refusal),
-    }
-}
-
-fn plain(done: Result<(), Refusal>) -> Answer
-    ensures { result ≡ plain_answer done }
-{
-    match done {
-        Ok(()) => Answer::Done,
-        Err(refusal) => Answer::Refused(refusal),
+        Line::Kinds { .. } | Line::Blank | Line::Unknown => Err(No::NotACall),
     }
 }

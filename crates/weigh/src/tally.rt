@@ -2,9 +2,9 @@
 ghost use Rattle.std.specs.Prelude.{◌≡◌};
 ghost use Rattle.weigh.specs.Counts.{counted};
 
-use crate::session::Answer;
+use crate::answer::{Answer, No};
 
-#[derive(Clone, Copy)]
+#[derive(Clone, Copy, PartialEq, Eq, Debug, Default)]
 pub struct Tally {
     // lines that were calls
     pub calls: u64,
@@ -18,24 +18,20 @@ impl Tally {
     pub(crate) fn new() -> Tally
         ensures { (result.calls ≡ 0) × (result.refused ≡ 0) × (result.unknown ≡ 0) }
     {
-        Tally {
-            calls: 0,
-            refused: 0,
-            unknown: 0,
-        }
+        Tally::default()
     }
 
     // One line more, by its answer.
-    pub(crate) fn count(&mut self, answer: Answer)
-        ensures { self.new ≡ counted self.old answer }
+    pub(crate) fn count(&mut self, answer: &Result<Answer, No>)
+        ensures { self.new ≡ counted self.old answer.now }
     {
-        if let Answer::NotACall = answer {
-            self.unknown = self.unknown.saturating_add(1);
-            return;
-        }
-        self.calls = self.calls.saturating_add(1);
-        if let Answer::Refused(_) = answer {
-            self.refused = self.refused.saturating_add(1);
+        match answer {
+            Ok(_) => self.calls = self.calls.saturating_add(1),
+            Err(No::Refused(_)) => {
+                self.calls = self.calls.saturating_add(1);
+                self.refused = self.refused.saturating_add(1);
+            }
+            Err(No::NotACall) => self.unknown = self.unknown.saturating_add(1),
         }
     }
 }
