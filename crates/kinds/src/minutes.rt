@@ -32,10 +32,7 @@ pub fn largest_size(figures: &[i64]) -> u64
 {
     let mut most = 0;
     for figure in figures {
-        let size = figure.unsigned_abs();
-        if size > most {
-            most = size;
-        }
+        most = figure.unsigned_abs().max(most);
     }
     most
 }
