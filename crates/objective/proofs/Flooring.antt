@@ -24,7 +24,6 @@ pub record Floorable (k : KindsMeaning) (h : ℤ) (xs : List Reading) (d : ℤ) 
   pub stiff : is_stiffness h ≡ true
   pub noted : readings_no xs ≡ None
   pub grows : k.roughness.growth ≤ 2000
-  pub misfit_steep : k.misfit.steepness ≤ 100
   pub bend_steep : k.bend.steepness ≤ 100
   pub reaches : told_reach k.roughness < length xs
   pub long : length ms ≡ length xs - told_reach k.roughness
@@ -41,7 +40,6 @@ floorable k h xs d ms room e =
       stiff = is_stiff h a.0;
       noted = b.0;
       grows = grind (arith, c);
-      misfit_steep = grind (arith, c);
       bend_steep = grind (arith, c);
       reaches = grind (arith, c);
       long = grind (arith, c);
@@ -150,13 +148,6 @@ floored k law h xs d ms before after r a p = record {
     below : Given h xs d → LawfulMultipliers k (nat_abs h) (nat_abs d) xs ms → NoTableBeats k (nat_abs h) xs (nat_abs d) (floor_of k xs ms)
     below given m =
         floor_holds k law (nat_abs h) (nat_abs d) (weight_of h (stiffness_weighs h given.stiff)) (denominator_of d given.divides) xs ms (weights 0 None xs given.noted) m
-
--- the last of three checks answers
-pub last_of_three : (a b m : Option Refusal) (r : Result (Unit {0}) Refusal) → a ≡ None → b ≡ None → r ≡ answer m tt → r ≡ answer (or_else a (or_else b (or_else m None))) tt
-last_of_three None None None r ea eb e = e
-last_of_three None None (Some x) r ea eb e = e
-last_of_three None (Some y) m r ea eb e = absurd (let z : ◌≡◌ {A = ℕ} 0 1 = cc in omega arith)
-last_of_three (Some x) b m r ea eb e = absurd (let z : ◌≡◌ {A = ℕ} 0 1 = cc in omega arith)
 
 pub floor_refused : (k : KindsMeaning) → KindsLaws k → (h : ℤ) (xs : List Reading) (d : ℤ) (ms before : List ℤ) (r : Refusal) → weigh_multipliers_no k h xs d ms (length before) ≡ Some r → WeighsMultipliers k h xs d ms before before (Err r)
 floor_refused k law h xs d ms before r e =

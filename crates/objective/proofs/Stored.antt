@@ -1,50 +1,54 @@
 -- Lawful figures, stored in 64 bits and read again, and the pairs that a loop over two lists takes.
-use Rattle.std.proofs.Common.{◌≡◌, ℕ, ◌<◌, ◌≤◌, true, List, length, get_or, ℤ, pos, sym, ap, ◌∙◌, arith, w64, to_z, of_z}
+use Rattle.std.proofs.Common.{◌≡◌, ℕ, ◌<◌, ◌≤◌, true, List, length, get_or, ℤ, pos, ◌-ℤ◌, nat_abs, ap, ◌∙◌, arith, w64, to_z, of_z}
 use borrow.Author.Differences.{ints}
 use Rattle.std.specs.List.{zip, enumerate_from}
 use Rattle.std.proofs.lemmas.List.{get_or_default}
 use Rattle.std.proofs.lemmas.List.FromFn.{length-enumerate_from, get_or-enumerate_from}
 use Rattle.std.proofs.lemmas.Slice.Zip.{length-zip, get_or-zip}
 use Rattle.kinds.specs.declared.reading.Reading.{Reading}
-use Rattle.kinds.specs.Penalty.{is_weight, is_denominator, is_residual}
+use Rattle.kinds.specs.Penalty.{is_weight, is_residual}
 use Rattle.kinds.proofs.Bits.{back64}
-use Rattle.objective.specs.Checks.{is_stiffness, is_value}
+use Rattle.objective.specs.Checks.{is_value}
 use Rattle.objective.proofs.Noted.{blank}
 
 pub weight_back : (w : ℤ) → is_weight w ≡ true → to_z w64 (of_z w64 w) ≡ w
 weight_back w e = back64 w (grind (arith, ints))
 
+pub value_most : (v : ℤ) → is_value v ≡ true → nat_abs v ≤ 20000
+value_most v e = grind (arith, ints)
+
 pub value_back : (v : ℤ) → is_value v ≡ true → to_z w64 (of_z w64 v) ≡ v
-value_back v e = back64 v (grind (arith, ints))
+value_back v e = back64 v (omega (arith, value_most v e))
 
-pub residual_back : (r : ℤ) → is_residual r ≡ true → to_z w64 (of_z w64 r) ≡ r
-residual_back r e = back64 r (grind arith)
+-- a value less a crude value
+pub residual_back : (v z : ℤ) → is_value v ≡ true → is_value z ≡ true → to_z w64 (of_z w64 (to_z w64 (of_z w64 v) -ℤ to_z w64 (of_z w64 z))) ≡ v -ℤ z
+residual_back v z ev ez =
+    let value = value_most v ev in
+    let crude = value_most z ez in
+    omega (arith, ints)
 
-pub stiffness_back : (h : ℤ) → is_stiffness h ≡ true → to_z w64 (of_z w64 h) ≡ h
-stiffness_back h e = back64 h (grind (arith, ints))
+pub row_back : (r : ℤ) → is_residual r ≡ true → to_z w64 (of_z w64 r) ≡ r
+row_back r e = back64 r (grind arith)
 
-pub denominator_back : (d : ℤ) → is_denominator d ≡ true → to_z w64 (of_z w64 d) ≡ d
-denominator_back d e = back64 d (grind (arith, ints))
-
--- a pair that is counted
+-- a figure and a reading that stand at one place
 pub record Paired (cs : List ℤ) (xs : List Reading) (i at : ℕ) (c : ℤ) (x : Reading) : Type 0 where
-  pub below : i < length cs
+  pub below : i < length xs
   pub place : at ≡ i
-  pub column : c ≡ get_or cs i (pos 0)
+  pub figure : c ≡ get_or cs i (pos 0)
   pub reading : x ≡ get_or xs i blank
 
 pub paired : (cs : List ℤ) (xs : List Reading) (i place : ℕ) (c : ℤ) (x : Reading) → length cs ≡ length xs → i < length (enumerate_from 0 (zip cs xs)) → ◌≡◌ {A = ℕ × (ℤ × Reading)} (place, (c, x)) (get_or (enumerate_from 0 (zip cs xs)) i (place, (c, x))) → Paired cs xs i place c x
 paired cs xs i place c x same h e =
     let long = length-enumerate_from 0 (zip cs xs) in
     let pairs = length-zip cs xs in
-    let below : i < length cs = omega arith in
+    let below : i < length xs = omega arith in
     let at = e ∙ get_or-enumerate_from 0 (zip cs xs) i (place, (c, x)) (omega arith) in
-    let pair = ap (λ (p : ℕ × (ℤ × Reading)). p.1) at ∙ get_or-zip cs xs i (c, x) below (omega arith) in
+    let pair = ap (λ (p : ℕ × (ℤ × Reading)). p.1) at ∙ get_or-zip cs xs i (c, x) (omega arith) below in
     record {
       below = below;
       place = omega (arith, ap (λ (p : ℕ × (ℤ × Reading)). p.0) at);
-      column = ap (λ (p : ℤ × Reading). p.0) pair ∙ get_or_default cs i c (pos 0) below;
-      reading = ap (λ (p : ℤ × Reading). p.1) pair ∙ get_or_default xs i x blank (omega arith);
+      figure = ap (λ (p : ℤ × Reading). p.0) pair ∙ get_or_default cs i c (pos 0) (omega arith);
+      reading = ap (λ (p : ℤ × Reading). p.1) pair ∙ get_or_default xs i x blank below;
     }
 
 pub pairs_end : (cs : List ℤ) (xs : List Reading) (i : ℕ) → length cs ≡ length xs → i ≡ length (enumerate_from 0 (zip cs xs)) → length cs ≤ i

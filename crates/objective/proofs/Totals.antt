@@ -1,30 +1,15 @@
 -- The running sums of cost and floor, and the sizes of their terms.
-use Rattle.std.proofs.Common.{◌≡◌, ℕ, ◌+◌, ◌*◌, ◌<◌, ◌≤◌, true, List, length, get_or, drop, ℤ, pos, ◌+ℤ◌, ◌-ℤ◌, ◌*ℤ◌, nat_abs, Some, None, ap, ◌∙◌, ap₂, arith, w64, to_z, of_z}
+use Rattle.std.proofs.Common.{◌≡◌, ℕ, ◌+◌, ◌*◌, ◌<◌, ◌≤◌, true, List, length, get_or, drop, ℤ, pos, ◌+ℤ◌, ◌-ℤ◌, ◌*ℤ◌, nat_abs, ap, ◌∙◌, ap₂, arith, w64, to_z, of_z}
 use borrow.Author.Differences.{ints}
 use Rattle.std.proofs.lemmas.List.{drop_more, at_drop_all}
 use Rattle.kinds.specs.declared.reading.Reading.{Reading}
 use Rattle.kinds.specs.Figures.{dot}
-use Rattle.kinds.specs.Penalty.{PenaltyMeaning, PenaltyLaws, is_weight, is_residual, cost_answer}
+use Rattle.kinds.specs.Penalty.{PenaltyMeaning, is_weight, is_residual}
 use Rattle.kinds.proofs.Bits.{back64}
-use Rattle.kinds.proofs.Ring.{linear, mul_most, size_add_most}
+use Rattle.kinds.proofs.Ring.{linear, size_add_most}
 use Rattle.objective.specs.Checks.{is_stiffness}
 use Rattle.objective.specs.Objective.{misfit_cost, crudes}
 use Rattle.objective.proofs.Noted.{blank}
-use Rattle.objective.proofs.Slopes.{weight_of}
-
-pub cost_told : (p : PenaltyMeaning) (w r : ℤ) (v : ℕ) → Some v ≡ cost_answer p w r → v ≡ p.cost (nat_abs w) r
-cost_told p w r v e = grind arith
-
-pub cost_told_always : (p : PenaltyMeaning) (w r : ℤ) → None ≡ cost_answer p w r → is_weight w ≡ true → is_residual r ≡ true → ⊥
-cost_told_always p w r e hw hr = grind arith
-
-residual_most : (r : ℤ) → is_residual r ≡ true → nat_abs r ≤ 40000000
-residual_most r e = grind arith
-
-pub cost_bound : (p : PenaltyMeaning) → PenaltyLaws p → p.steepness ≤ 100 → (w r : ℤ) → is_weight w ≡ true → is_residual r ≡ true → p.cost (nat_abs w) r ≤ 4000000000000
-cost_bound p law steep w r hw hr =
-    let most = law.cost_most (nat_abs w) (weight_of w hw) r in
-    omega (arith, mul_most (mul_most steep (weight_of w hw)) (residual_most r hr))
 
 -- one term more
 pub misfit_more : (p : PenaltyMeaning) (xs : List Reading) (vs : List ℤ) (i : ℕ) → i < length xs → length vs ≡ length xs → misfit_cost p (drop i xs) (drop i vs) ≡ p.cost (nat_abs (get_or xs i blank).weight) (get_or vs i (pos 0) -ℤ (get_or xs i blank).crude) + misfit_cost p (drop (i + 1) xs) (drop (i + 1) vs)

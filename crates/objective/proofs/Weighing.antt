@@ -1,7 +1,6 @@
 -- From checks that pass to what the weighing calls promise.
 --     Offered           what a table that passes its checks is
 use Rattle.std.proofs.Common.{◌≡◌, ℕ, ◌+◌, ◌-◌, ◌<◌, ◌≤◌, true, ◌&&◌, eqb, ltb, leb, List, [], ◌∷◌, length, take, ℤ, nat_abs, Some, None, Ok, Err, Option, sym, refl, ap, ◌∙◌, subst, arith}
-use borrow.Author.Differences.{ints}
 use Rattle.kinds.specs.declared.reading.Reading.{Reading}
 use Rattle.kinds.specs.declared.refusal.Cause.{Cause}
 use Rattle.kinds.specs.declared.refusal.Cause.TheVariants.{Length, Value, Denominator as BadDenominator, Multiplier, Short}
@@ -18,6 +17,7 @@ use Rattle.objective.specs.Objective.{KindsMeaning, minutes, rows_of, cost_of}
 use Rattle.objective.specs.Promises.{WeighsTable}
 use Rattle.objective.proofs.Duality.{length_minutes}
 use Rattle.objective.proofs.Noted.{few, lawful_noted}
+use Rattle.objective.proofs.Stored.{value_most}
 
 pub nothing_located : (c : Cause) (o : Option ℕ) → located c o ≡ None → o ≡ None
 nothing_located c None e = refl
@@ -25,8 +25,6 @@ nothing_located c (Some p) e = cc
 
 pub record Offered (k : KindsMeaning) (n : ℕ) (vs : List ℤ) (room : ℕ) : Type 0 where
   pub grows : k.roughness.growth ≤ 2000
-  pub misfit_steep : k.misfit.steepness ≤ 100
-  pub bend_steep : k.bend.steepness ≤ 100
   pub reaches : told_reach k.roughness < n
   pub long : length vs ≡ n
   pub fits : n - told_reach k.roughness ≤ room
@@ -35,16 +33,11 @@ pub record Offered (k : KindsMeaning) (n : ℕ) (vs : List ℤ) (room : ℕ) : T
 pub offered : (k : KindsMeaning) (n : ℕ) (vs : List ℤ) (room : ℕ) → table_no k n vs room ≡ None → Offered k n vs room
 offered k n vs room e = record {
   grows = grind arith;
-  misfit_steep = grind arith;
-  bend_steep = grind arith;
   reaches = grind arith;
   long = grind arith;
   fits = grind arith;
   values = nothing_located Value (first_off is_value vs) (grind arith);
 }
-
-value_most : (v : ℤ) → is_value v ≡ true → nat_abs v ≤ 20000
-value_most v e = grind (arith, ints)
 
 pub values_most : (i : ℕ) (vs : List ℤ) → first_off_from is_value i vs ≡ None → largest vs ≤ 20000
 values_most i [] e = omega arith
@@ -87,7 +80,6 @@ both_none (Some r) b e = absurd (let z : ◌≡◌ {A = ℕ} 0 1 = cc in omega a
 
 -- what passes all checks of a table
 pub record Weighable (k : KindsMeaning) (h : ℤ) (xs : List Reading) (vs : List ℤ) (room : ℕ) : Type 0 where
-  pub stiff : is_stiffness h ≡ true
   pub noted : readings_no xs ≡ None
   pub offer : Offered k (length xs) vs room
 
@@ -99,7 +91,7 @@ weighable k h xs vs room e =
     let a = both_none (stiffness_no h) _ e in
     let b = both_none (readings_no xs) _ a.1 in
     let c = both_none (table_no k (length xs) vs room) None b.1 in
-    record { stiff = is_stiff h a.0; noted = b.0; offer = offered k (length xs) vs room c.0 }
+    record { noted = b.0; offer = offered k (length xs) vs room c.0 }
 
 -- the rows that are read again from the caller's place
 pub cut_rows : (k : KindsMeaning) → RoughnessLaws k.roughness → (xs : List Reading) (vs before after : List ℤ) (count : ℕ) → readings_no xs ≡ None → Offered k (length xs) vs (length before) → after ≡ over (rows_of k xs vs) before → count ≡ length xs - told_reach k.roughness → take count after ≡ rows_of k xs vs

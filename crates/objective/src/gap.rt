@@ -33,7 +33,7 @@ pub fn gap_between(cost: u64, floor: i64, denominator: i64, allowance: i64) -> R
     if !is_allowance(allowance) {
         return Err(Cause::Setting.into());
     }
-    let denominator = Denominator::new(denominator)?;
+    let denominator = Denominator::try_from(denominator)?;
     let scaled = denominator.times(cost) as i128 - floor as i128;
     let allowed = denominator.times(allowance.unsigned_abs()) as i128;
     Ok(Gap {

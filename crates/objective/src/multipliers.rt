@@ -1,9 +1,8 @@
 // Multipliers of a firing: their checks, their columns and their floor.
-ghost use Rattle.std.specs.Prelude.{◌≡◌, ◌≤◌, not, true, length, ◌*ℤ◌, None, Some, MatchResult, unsigned_abs};
+ghost use Rattle.std.specs.Prelude.{◌≡◌, ◌≤◌, not, true, length, ◌*ℤ◌, neg_ℤ, None, Some, MatchResult, unsigned_abs};
 ghost use Rattle.kinds.specs.Checks.{answer, first_off};
 ghost use Rattle.kinds.specs.Figures.{dot, largest};
-ghost use Rattle.kinds.specs.Penalty.{is_weight};
-ghost use Rattle.objective.specs.Checks.{columns_no, before_columns_no};
+ghost use Rattle.objective.specs.Checks.{has_figures, columns_no, before_columns_no};
 ghost use Rattle.objective.specs.Objective.{crudes};
 ghost use Rattle.objective.specs.Promises.{WeighsMultipliers};
 
@@ -13,6 +12,7 @@ use crate::mild::slope_fits;
 use crate::ranges::Denominator;
 use crate::trio::{Kinds, Meant};
 use kinds::penalty::Penalty;
+use kinds::reading::Reading;
 use kinds::refusal::{Cause, Refusal};
 use kinds::roughness::Roughness;
 
@@ -25,27 +25,34 @@ fn product_of(column: i64, crude: i64) -> i64
     column * crude
 }
 
-// The first multiplier that is not an allowed slope of the bends.
-fn first_off_multiplier<P: Penalty>(
-    bend: &P,
-    stiffness: i64,
-    denominator: Denominator,
-    multipliers: &[i64],
-) -> Option<usize>
-    requires steep { (P.Penalty.meaning bend.now).steepness ≤ 100 }
-    requires weighs { is_weight stiffness ≡ true }
-    ensures { result ≡ first_off ((P.Penalty.meaning bend.now).allows (unsigned_abs stiffness) (unsigned_abs denominator.value)) multipliers.now }
-{
-    multipliers.iter().position(
-        |multiplier| -> bool
-            requires steep { (P.Penalty.meaning bend.now).steepness ≤ 100 }
-            requires weighs { is_weight stiffness ≡ true }
-            ensures { result ≡ not ((P.Penalty.meaning bend.entry.now).allows (unsigned_abs stiffness) (unsigned_abs denominator.value) multiplier.now) }
-        { !slope_fits(bend, stiffness, denominator, *multiplier) },
-    )
-}
-
 impl<'a, R: Roughness, M: Penalty, B: Penalty> Firing<'a, R, M, B> {
+    // Whether a multiplier is an allowed slope of the bends.
+    fn bend_allows(&self, denominator: Denominator, multiplier: i64) -> bool
+        ensures { result ≡ (B.meaning self.now.kinds.now.bend).allows (unsigned_abs self.now.stiffness) (unsigned_abs denominator.value) multiplier }
+    {
+        slope_fits(&self.kinds.bend, self.stiffness, denominator, multiplier)
+    }
+
+    // Whether a column, negated, is an allowed slope of the misfit at its reading's weight.
+    fn misfit_allows(&self, denominator: Denominator, column: i64, reading: &Reading) -> bool
+        requires figures { has_figures reading.now ≡ true }
+        requires small { unsigned_abs column ≤ 1000000000000 }
+        ensures { result ≡ (M.meaning self.now.kinds.now.misfit).allows (unsigned_abs reading.now.weight) (unsigned_abs denominator.value) (neg_ℤ column) }
+    {
+        slope_fits(&self.kinds.misfit, reading.weight, denominator, -column)
+    }
+
+    // The first multiplier that is not an allowed slope of the bends.
+    fn first_off_multiplier(&self, denominator: Denominator, multipliers: &[i64]) -> Option<usize>
+        ensures { result ≡ first_off ((B.meaning self.now.kinds.now.bend).allows (unsigned_abs self.now.stiffness) (unsigned_abs denominator.value)) multipliers.now }
+    {
+        multipliers.iter().position(
+            |multiplier| -> bool
+                ensures { result ≡ not ((B.meaning self.entry.now.kinds.now.bend).allows (unsigned_abs self.entry.now.stiffness) (unsigned_abs denominator.value) multiplier.now) }
+            { !self.bend_allows(denominator, *multiplier) },
+        )
+    }
+
     // All checks of multipliers but that of their columns, with enough room for these.
     fn check_multipliers(
         &self,
@@ -58,9 +65,11 @@ impl<'a, R: Roughness, M: Penalty, B: Penalty> Firing<'a, R, M, B> {
         if multipliers.len() != self.rows() || room < self.readings.len() {
             return Err(Cause::Length.into());
         }
-        let checked = Denominator::new(denominator)?;
-        let off = first_off_multiplier(&self.kinds.bend, self.stiffness, checked, multipliers);
-        check_found(Cause::Multiplier, off)?;
+        let checked = Denominator::try_from(denominator)?;
+        check_found(
+            Cause::Multiplier,
+            self.first_off_multiplier(checked, multipliers),
+        )?;
         Ok(checked)
     }
 
@@ -70,8 +79,9 @@ impl<'a, R: Roughness, M: Penalty, B: Penalty> Firing<'a, R, M, B> {
         requires long { length columns.now ≡ length self.now.readings.now }
         ensures { result ≡ answer (columns_no (M.meaning self.now.kinds.now.misfit) (unsigned_abs denominator.value) columns.now self.now.readings.now) tt }
     {
+        // Kept so: the place is what a refusal names, and no index.
         for (place, (column, reading)) in columns.iter().zip(self.readings).enumerate() {
-            if !slope_fits(&self.kinds.misfit, reading.weight, denominator, -*column) {
+            if !self.misfit_allows(denominator, *column, reading) {
                 return Err(Refusal {
                     cause: Cause::Column,
                     place,
@@ -94,7 +104,7 @@ impl<'a, R: Roughness, M: Penalty, B: Penalty> Firing<'a, R, M, B> {
         sum
     }
 
-    // The floor of multipliers, with their columns written at the start of `columns` once these are known to be allowed.
+    // The floor of multipliers. Their columns are written at the start of `columns` once they are known to be allowed.
     pub(crate) fn weigh_multipliers(
         &self,
         denominator: i64,

@@ -1,5 +1,7 @@
 // The ranges of settings and values.
+// Kept so: constants `1..=1000` and the like were tried, and a constant's value may not make a range.
 ghost use Rattle.std.specs.Prelude.{◌≡◌, ◌*◌, ◌^◌, ◌≤◌, true, false, unsigned_abs, MatchResult};
+ghost use Rattle.kinds.specs.declared.refusal.Cause.TheVariants.{Denominator as OffRange};
 ghost use Rattle.kinds.specs.Checks.{at};
 ghost use Rattle.kinds.specs.Penalty.{is_denominator};
 ghost use Rattle.objective.specs.Checks.{is_stiffness, is_allowance, is_value};
@@ -31,16 +33,20 @@ pub(crate) struct Denominator {
     ghost divides: { is_denominator value ≡ true },
 }
 
-impl Denominator {
-    pub(crate) fn new(value: i64) -> Result<Denominator, Refusal>
-        ensures { MatchResult result (λ d. d.value ≡ value) (λ r. (is_denominator value ≡ false) × (r ≡ at Cause.Denominator 0)) }
-    {
+impl TryFrom<i64> for Denominator {
+    type Error = Refusal;
+
+    ghost try_from_gives = { λ value result. MatchResult result (λ d. d.value ≡ value) (λ r. (is_denominator value ≡ false) × (r ≡ at OffRange 0)) };
+
+    fn try_from(value: i64) -> Result<Denominator, Refusal> {
         if !(1..=1000).contains(&value) {
             return Err(Cause::Denominator.into());
         }
         Ok(Denominator { value })
     }
+}
 
+impl Denominator {
     pub(crate) fn times(self, figure: u64) -> u128
         ensures value { result ≡ unsigned_abs self.value * figure }
         ensures bound { result ≤ 1000 * 2 ^ 64 }

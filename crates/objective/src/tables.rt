@@ -2,8 +2,7 @@
 ghost use Rattle.std.specs.Prelude.{◌≡◌, ◌≤◌, true, not, length, ◌-ℤ◌, None, unsigned_abs};
 ghost use Rattle.kinds.specs.Checks.{answer, first_off};
 ghost use Rattle.kinds.specs.Figures.{largest};
-ghost use Rattle.kinds.specs.Penalty.{is_residual};
-ghost use Rattle.objective.specs.Checks.{is_value, weigh_table_no};
+ghost use Rattle.objective.specs.Checks.{is_value, has_figures, weigh_table_no};
 ghost use Rattle.objective.specs.Objective.{misfit_cost, bend_cost};
 ghost use Rattle.objective.specs.Promises.{WeighsTable};
 
@@ -13,6 +12,7 @@ use crate::mild::cost_at;
 use crate::ranges::is_value;
 use crate::trio::{Kinds, Meant};
 use kinds::penalty::Penalty;
+use kinds::reading::Reading;
 use kinds::refusal::{Cause, Refusal};
 use kinds::roughness::Roughness;
 
@@ -27,15 +27,6 @@ fn first_off_value(values: &[i64]) -> Option<usize>
     )
 }
 
-fn residual_of(value: i64, crude: i64) -> i64
-    requires values { is_value value ≡ true }
-    requires crudes { is_value crude ≡ true }
-    ensures value { result ≡ value -ℤ crude }
-    ensures small { is_residual result ≡ true }
-{
-    value - crude
-}
-
 impl<'a, R: Roughness, M: Penalty, B: Penalty> Firing<'a, R, M, B> {
     // Whether it is a table for these readings, with enough room for its rows.
     fn check_table(&self, table: &[i64], room: usize) -> Result<(), Refusal>
@@ -47,6 +38,16 @@ impl<'a, R: Roughness, M: Penalty, B: Penalty> Firing<'a, R, M, B> {
         check_found(Cause::Value, first_off_value(table))
     }
 
+    // What a value costs at its reading.
+    fn residual_cost(&self, reading: &Reading, value: i64) -> u64
+        requires figures { has_figures reading.now ≡ true }
+        requires value { is_value value ≡ true }
+        ensures value { result ≡ (M.meaning self.now.kinds.now.misfit).cost (unsigned_abs reading.now.weight) (value -ℤ reading.now.crude) }
+        ensures bound { result ≤ 4000000000000 }
+    {
+        cost_at(&self.kinds.misfit, reading.weight, value - reading.crude)
+    }
+
     // What the residuals of a table cost.
     fn misfit_cost(&self, table: &[i64]) -> u64
         requires values { first_off is_value table.now ≡ None }
@@ -56,8 +57,7 @@ impl<'a, R: Roughness, M: Penalty, B: Penalty> Firing<'a, R, M, B> {
     {
         let mut sum = 0;
         for (reading, value) in self.readings.iter().zip(table) {
-            let residual = residual_of(*value, reading.crude);
-            sum += cost_at(&self.kinds.misfit, reading.weight, residual);
+            sum += self.residual_cost(reading, *value);
         }
         sum
     }

@@ -1,4 +1,4 @@
-use Rattle.std.proofs.Common.{◌≡◌, ℕ, ◌*◌, true, ℤ, nat_abs, None, sym, ap, ◌∙◌, ap₂, arith}
+use Rattle.std.proofs.Common.{◌≡◌, ℕ, ◌*◌, true, ℤ, nat_abs, sym, ap, ◌∙◌, ap₂}
 use Rattle.std.proofs.lemmas.Int.{to_z-of_z}
 use Rattle.kinds.proofs.Passing.{says_so}
 use Rattle.kinds.specs.Penalty.{is_denominator}

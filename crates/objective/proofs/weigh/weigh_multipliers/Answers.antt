@@ -1,4 +1,4 @@
-use Rattle.std.proofs.Common.{length, List, ℤ, nat_abs, Some, ◌≡◌, ◌∙◌, w64, to_z, of_z}
+use Rattle.std.proofs.Common.{length, List, ℤ, Some, ◌≡◌, ◌∙◌, w64, to_z, of_z}
 use Rattle.std.proofs.lemmas.Int.{to_z-of_z}
 use Rattle.std.proofs.lemmas.Result.{err_from_is_err_and}
 use Rattle.kinds.specs.declared.reading.Reading.{Reading}
