@@ -18,17 +18,19 @@ use kinds::reading::Reading;
 use kinds::refusal::Cause;
 
 // The figures of a head, from its fields.
-fn head_of(fields: HeadFields<'_>) -> Head
-    ensures { HeadRead fields.entry result }
-{
-    Head {
-        roughness: fields.roughness.figure(),
-        misfit: fields.misfit.figure(),
-        bend: fields.bend.figure(),
-        readings: fields.readings.figure(),
-        stiffness: fields.stiffness.figure(),
-        denominator: fields.denominator.figure(),
-        allowance: fields.allowance.figure(),
+impl From<HeadFields<'_>> for Head {
+    ghost from_gives = { λ fields head. HeadRead fields head };
+
+    fn from(fields: HeadFields<'_>) -> Head {
+        Head {
+            roughness: fields.roughness.figure(),
+            misfit: fields.misfit.figure(),
+            bend: fields.bend.figure(),
+            readings: fields.readings.figure(),
+            stiffness: fields.stiffness.figure(),
+            denominator: fields.denominator.figure(),
+            allowance: fields.allowance.figure(),
+        }
     }
 }
 
@@ -181,7 +183,7 @@ impl Machine {
     ) -> Result<(), Fault>
         ensures { HeadStepped wanted (frame_text (HeadFrame fields.entry)) at self.new result }
     {
-        let head = head_of(fields);
+        let head = Head::from(fields);
         let count = check_head(wanted, fields.edition.figure(), head, at)?;
         self.contents.head = head;
         self.contents.count = count;
