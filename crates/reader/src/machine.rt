@@ -39,16 +39,14 @@ impl From<HeadFields<'_>> for Head {
 fn check_head(wanted: Option<Wanted>, edition: u64, head: Head, at: usize) -> Result<usize, Fault>
     ensures { HeadChecked wanted edition head at result }
 {
-    let Some(wanted) = wanted else {
+    let Some(wanted) = wanted.filter(|wanted| {
+        edition == 1
+            && head.roughness == u64::from(wanted.roughness)
+            && head.misfit == u64::from(wanted.misfit)
+            && head.bend == u64::from(wanted.bend)
+    }) else {
         return Err(Fault::new(Layer::Frames, Cause::Mark, at));
     };
-    if edition != 1
-        || head.roughness != u64::from(wanted.roughness)
-        || head.misfit != u64::from(wanted.misfit)
-        || head.bend != u64::from(wanted.bend)
-    {
-        return Err(Fault::new(Layer::Frames, Cause::Mark, at));
-    }
     if head.readings > 240 {
         return Err(Fault::new(Layer::Frames, Cause::Full, at));
     }
