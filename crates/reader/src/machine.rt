@@ -125,6 +125,7 @@ impl Machine {
         Ok(())
     }
 
+    // Kept so: the next goes to another list and is read in another way; what they share is `check_place` and `advance`.
     fn keep_entry(
         &mut self,
         k: usize,
@@ -199,6 +200,7 @@ impl Machine {
     ) -> Result<(), Fault>
         ensures { Stepped wanted (frame_text frame.entry) at self.old self.new result }
     {
+        // Kept so: stage and frame decide together, and each pair hands over its own fields; closures would be no plainer.
         match (self.stage, frame) {
             (Stage::Head, Frame::Head(fields)) => self.keep_head(wanted, fields, at),
             (
