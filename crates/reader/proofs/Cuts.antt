@@ -2,10 +2,10 @@
 --     NoEnd           bytes without an end byte
 --     Upto            t lines of bytes were good, and the rest is left
 --     whole_known     where no line is broken, all bytes are digits or end bytes
-use Rattle.std.proofs.Common.{◌≡◌, ℕ, zero, suc, ◌+◌, ◌-◌, ◌<◌, ◌≤◌, Bool, true, false, ◌&&◌, cond, eqb, List, [], ◌∷◌, ◌++◌, length, get_or, take, drop, sym, refl, ap, ◌∙◌, subst, inl, inr, ⊎_elim, add-zero, arith, length-append, length-drop, below_more, fold}
+use Rattle.std.proofs.Common.{◌≡◌, ℕ, zero, suc, ◌+◌, ◌<◌, ◌≤◌, Bool, true, false, ◌&&◌, cond, eqb, List, [], ◌∷◌, ◌++◌, length, get_or, take, drop, sym, refl, ap, ◌∙◌, subst, inl, inr, ⊎_elim, add-zero, arith, length-append, length-drop, below_more, fold}
 use Rattle.std.proofs.ByRecursion.{All-get_or, All-from_get_or}
-use Rattle.std.proofs.lemmas.List.{take-append-drop, drop_more, get_or-take, take_rest, drop-drop, get_or-drop, get_or_past, length-take-le}
-use Rattle.std.proofs.lemmas.Bool.{and_parts, ne_eqb, cases_lt, cases_Bool, or_cases, or_left, or_right, both_ways}
+use Rattle.std.proofs.lemmas.List.{take-append-drop, drop_more, get_or-take, drop-drop, get_or-drop, get_or_past, length-take-le}
+use Rattle.std.proofs.lemmas.Bool.{and_parts, ne_eqb, cases_lt, cases_Bool, or_left, or_right, both_ways}
 use Rattle.kinds.specs.declared.refusal.Cause.TheVariants.{Line}
 use Rattle.digits.specs.Fields.{is_digit, Digits}
 use Rattle.reader.specs.declared.fault.Fault.{Fault}
@@ -90,16 +90,6 @@ fold_known (b ∷ bs) known on =
     let here = and_parts _ _ more.0 in
     (here.0, (here.1, more.1))
 
--- known bytes before the end byte are digits
-pub known_digits : (s : List ℕ) (e : ℕ) → e ≤ length s → Known s → ((k : ℕ) → k < e → get_or s k 0 ≡ 10 → ⊥) → Digits (take e s)
-known_digits s e le known before = All-from_get_or IsDigit (take e s) 0 (λ i h.
-    let lt : i < e = omega (arith, h, length-take-le e s le) in
-    let other : eqb (get_or s i 0) 10 ≡ false = ne_eqb (get_or s i 0) 10 (before i lt) in
-    ap is_digit (get_or-take e s i 0 lt) ∙ ⊎_elim (λ on. on) (λ on. absurd (both_ways _ other on)) (or_cases _ _ (All-get_or IsKnown s i 0 (omega (arith, lt, le)) known)))
-
-pub end_off : (b : ℕ) → b ≡ 10 → is_digit b ≡ false
-end_off b e = ap is_digit e
-
 by_first : (P : ℕ → Type 0) → P 0 → ((j : ℕ) → P (suc j)) → (j : ℕ) → P j
 by_first P first others zero = first
 by_first P first others (suc j) = others j
@@ -162,14 +152,6 @@ module _ (s : List ℕ) (e : ℕ) (le : e ≤ length s) (digits : Digits (take e
       let p : pieces s ≡ take e s ∷ pieces (drop (e + 1) s) = ap pieces (cut lt q) ∙ pieces_line (take e s) (drop (e + 1) s) (digits_no_end (take e s) digits) in
       let l : length (take e s) ≡ e = length-take-le e s le in
       inl (omega (arith, ap length p, pieces_some (drop (e + 1) s)), λ g. let g' : Good (take e s) = subst Good (ap (λ ps. get_or ps 0 []) p) g in bad (omega (arith, g'.least, l)) (omega (arith, g'.most, l)))
-
-  -- a good line, and what is left behind its end byte
-  pub start_good : (line more : List ℕ) → e < length s → get_or s e 0 ≡ 10 → 2 ≤ e → e ≤ 60 → line ≡ take e s → more ≡ drop e s → (s ≡ line ++ (10 ∷ take (length more - 1) (drop 1 more))) × Good line
-  start_good line more lt q least most a b =
-      let left : take (length more - 1) (drop 1 more) ≡ drop (e + 1) s = take_rest more 1 ∙ ap (drop 1) b ∙ drop-drop 1 e s in
-      let l : length (take e s) ≡ e = length-take-le e s le in
-      let g : Good (take e s) = record { least = omega (arith, l); most = omega (arith, l); digits = digits } in
-      (cut lt q ∙ ap (λ x. x ++ (10 ∷ drop (e + 1) s)) (sym a) ∙ ap (λ x. line ++ (10 ∷ x)) (sym left), subst Good (sym a) g)
 
 pub good_no_end : (l : List ℕ) → Good l → NoEnd l
 good_no_end l g = digits_no_end l g.digits

@@ -13,7 +13,7 @@ use Rattle.reader.specs.declared.machine.Machine.{Machine}
 use Rattle.reader.specs.declared.stage.Stage.{Stage}
 use Rattle.reader.specs.declared.stage.Stage.TheVariants.{Head, Reading, Entry, Multiplier, End, Nothing}
 use Rattle.archive.specs.declared.figures.Head.{Head as StatedHead}
-use Rattle.reader.specs.Frames.{stage_at, HeadIs}
+use Rattle.reader.specs.Frames.{stage_at, lead, InTurn, HeadIs}
 use Rattle.reader.specs.Heads.{HeadRead}
 use Rattle.reader.specs.Readable.{figures_of}
 use Rattle.reader.specs.declared.frames.Frame.TheVariants.{Head as HeadFrame}
@@ -58,10 +58,15 @@ place_is x y k p t size e =
     let tail : take (length (field 4 k)) (p ++ t) ≡ field 4 k = ap (drop 2) e in
     sym (take_at p t 4 size) ∙ ap (λ n. take n (p ++ t)) (sym (field_length 4 k)) ∙ tail
 
-pub other_place : (x y k : ℕ) (p t : List ℕ) → length p ≡ 4 → k < 240 → (Number p k → ⊥) → take (length (x ∷ y ∷ field 4 k)) (x ∷ y ∷ (p ++ t)) ≡ x ∷ y ∷ field 4 k → ⊥
+other_place : (x y k : ℕ) (p t : List ℕ) → length p ≡ 4 → k < 240 → (Number p k → ⊥) → take (length (x ∷ y ∷ field 4 k)) (x ∷ y ∷ (p ++ t)) ≡ x ∷ y ∷ field 4 k → ⊥
 other_place x y k p t size few other e =
     let fits : Fits 4 k = omega arith in
     other (subst (λ s. Number s k) (sym (place_is x y k p t size e)) (number_field 4 k (omega arith) fits))
+
+pub misplaced : (m : Machine) (s : Stage) (k x y : ℕ) (p t : List ℕ) → m.stage ≡ s → lead s ≡ x ∷ y ∷ field 4 k → length p ≡ 4 → k < 240 → (Number p k → ⊥) → InTurn m.stage (x ∷ y ∷ (p ++ t)) → ⊥
+misplaced m s k x y p t at leads size few other o =
+    let l : List ℕ = x ∷ y ∷ (p ++ t) in
+    other_place x y k p t size few other (subst (λ z. take (length z) l ≡ z) leads (subst (λ z. InTurn z l) at o).leads)
 
 -- a number that was read is written as it stood
 pub written : (w : ℕ) (s : List ℕ) (x : ℕ) → length s ≡ w → Number s x → field w x ≡ s

@@ -328,7 +328,6 @@ pub record Turned (bs : List ℕ) (a b : Lines) (l : List ℕ) : Type 0 where
   pub counts : b.taken ≡ a.taken + 1
   pub good : Good l
   pub upto : Upto bs b.rest.now b.taken
-  pub less : length b.rest.now < length a.rest.now
 
 pub turned : (bs : List ℕ) (a b : Lines) (o : Option (Bor (List ℕ))) (l : Bor (List ℕ)) → Upto bs a.rest.now a.taken → Next a b (Ok o) → o ≡ Some l → Turned bs a b l.now
 turned bs a b o l u n e =
@@ -338,7 +337,6 @@ turned bs a b o l u n e =
       counts = m.1;
       good = m.2;
       upto = subst (Upto bs b.rest.now) (sym m.1) (upto_more bs a.rest.now l.now b.rest.now a.taken u m.0 m.2);
-      less = omega (arith, simp length-append at (ap length m.0));
     }
 
 -- of all stages, only the last waits for no digits

@@ -1,8 +1,11 @@
-use Rattle.std.proofs.Common.{length, Some, None, Ok, sym, ap, ◌∙◌, arith, length-append}
+use Rattle.std.proofs.Common.{true, Some, None, Ok, sym, ap, ◌∙◌, arith}
 use Rattle.std.proofs.lemmas.Result.{err_from_is_err_and}
 use Rattle.reader.specs.Turns.{Next}
-use Rattle.reader.proofs.Cuts.{upto_more, upto_broken, upto_all, upto_empty}
+use Rattle.reader.proofs.Cuts.{fold_known, upto_more, upto_broken, upto_all, upto_empty}
 use Rattle.reader.proofs.lines.check_lines.Goals as goal
+
+pub new-lines-requires : goal.new-lines-requires
+new-lines-requires c = λ on. (fold_known c.args.file.now true (sym c.all_known.ensures ∙ on)).1
 
 pub returns-in_err-_line : goal.returns-in_err-_line
 returns-in_err-_line c =
@@ -12,9 +15,6 @@ returns-in_err-_line c =
 
 turn : (c : goal.In-Some) → Next c.loop-line.lines c.next_line.new.self (Ok (Some c.in-Some._line))
 turn c = rw c.in-Some.is at c.in_ok-_line.ensures
-
-pub loop-line-smaller : goal.loop-line-smaller
-loop-line-smaller c = omega (arith, simp length-append at (ap length (turn c).0))
 
 pub loop-line-preserved : goal.loop-line-preserved
 loop-line-preserved c =

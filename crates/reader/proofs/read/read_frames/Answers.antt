@@ -1,4 +1,4 @@
-use Rattle.std.proofs.Common.{Ok, Err, sym, ap, ◌∙◌, subst, rules}
+use Rattle.std.proofs.Common.{Ok, Err, sym, ap, ◌∙◌, subst}
 use Rattle.std.proofs.lemmas.Result.{err_from_is_err_and}
 use Rattle.kinds.specs.declared.refusal.Cause.TheVariants.{Frame}
 use Rattle.reader.specs.declared.fault.Layer.TheVariants as layer
@@ -7,18 +7,12 @@ use Rattle.reader.specs.Frames.{InTurn}
 use Rattle.reader.specs.Lines.{pieces}
 use Rattle.reader.specs.Shapes.{frame_text}
 use Rattle.reader.specs.Steps.{Stepped}
-use Rattle.reader.proofs.Cuts.{upto_broken, upto_none}
+use Rattle.reader.proofs.Cuts.{whole_known}
 use Rattle.reader.proofs.Order.{Reached, turned, odd, refused, taken, missing, finished, long_fits}
 use Rattle.reader.proofs.read.read_frames.Goals as goal
 
-pub loop-line-init : goal.loop-line-init
-loop-line-init c = (rw (c.of_good-lines.ensures.rest, c.of_good-lines.ensures.taken) (upto_none c.args.file.now), search rules)
-
-pub returns-in_err-line : goal.returns-in_err-line
-returns-in_err-line c =
-    let h = c.in_err-line.ensures in
-    let b = upto_broken c.args.file.now c.loop-line.lines.rest.now c.loop-line.lines.taken c.loop-line.invariant.0 _ h.0 h.1 in
-    absurd (c.requires b.at b.broken)
+pub new-lines-requires : goal.new-lines-requires
+new-lines-requires c = λ _. whole_known c.args.file.now c.requires
 
 pub returns-in_err-frame : goal.returns-in_err-frame
 returns-in_err-frame c =
@@ -28,10 +22,6 @@ returns-in_err-frame c =
     let p = err_from_is_err_and c.from_residual-in_err-frame.result c.from_residual-in_err-frame.ensures.1 in
     rw (p.1, p.2)
     (odd c.args.wanted ls c.loop-line.lines.taken c.loop-line.machine c.loop-line.invariant.1 _ (h.0 ∙ ap (fault layer.Frames Frame) t.counts) (λ o. h.1 _ (subst (InTurn c.loop-line.machine.stage) t.here o)))
-
-pub loop-line-smaller : goal.loop-line-smaller
-loop-line-smaller c =
-    (turned c.args.file.now c.loop-line.lines c.next_line.new.self c.in_ok-line.field-0 c.in-Some.line c.loop-line.invariant.0 c.in_ok-line.ensures c.in-Some.is).less
 
 pub loop-line-preserved : goal.loop-line-preserved
 loop-line-preserved c =

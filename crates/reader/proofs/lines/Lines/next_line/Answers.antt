@@ -1,5 +1,5 @@
-use Rattle.std.proofs.Common.{◌<◌, length, refl, arith}
-use Rattle.reader.proofs.Cuts.{start_open, start_other, start_sized, start_good}
+use Rattle.std.proofs.Common.{◌<◌, length, arith}
+use Rattle.reader.proofs.Cuts.{start_open, start_other, start_sized}
 use Rattle.reader.proofs.lines.Lines.next_line.Goals as goal
 use Rattle.reader.proofs.lines.Lines.next_line.Goals.{then-end-self-via-then-end-self, then-end-self-via-else-end-self+then-self-end-ne10, then-end-self-via-else-end-self+else-self-end-ne10+then-end-lt2, then-end-self-via-else-end-self+else-self-end-ne10+else-end-lt2+then-end-gt60}
 
@@ -21,12 +21,3 @@ returns-then-end-self c =
             start_sized s e found.within found.digits (omega (arith, found.within, w.if-end-self.false)) w.if-self-end-ne10.false (λ _ most. omega (arith, most, w.if-end-gt60.true))
       ],
     )
-
-pub returns : goal.returns
-returns c =
-    let s = c.args.self.now.rest.now in
-    let e = c.leading_digits-end.result in
-    let found = c.leading_digits-end.ensures in
-    let cut = start_good s e found.within found.digits c.split_at.result.0.now c.split_at.result.1.now (omega (arith, found.within, c.if-end-self.false)) c.if-self-end-ne10.false
-    c.if-end-lt2.false c.if-end-gt60.false c.split_at.ensures.front c.split_at.ensures.back in
-    (cut.0, refl, cut.1)

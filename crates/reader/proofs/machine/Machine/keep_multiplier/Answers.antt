@@ -1,23 +1,19 @@
-use Rattle.std.proofs.Common.{◌∷◌, ◌++◌, set, ap, ◌∙◌, subst, arith, w32, w64, SFits, of_z, rules}
+use Rattle.std.proofs.Common.{refl, ◌<◌, set, ap, ◌∙◌, arith, w32, w64, SFits, of_z, rules}
 use Rattle.std.proofs.lemmas.Int.{to_z-of_z}
 use Rattle.std.proofs.lemmas.Result.{err_from_is_err_and}
 use Rattle.archive.specs.File.{multiplier_text}
 use Rattle.reader.specs.declared.stage.Stage.TheVariants.{Multiplier}
-use Rattle.reader.specs.Frames.{InTurn}
-use Rattle.reader.proofs.Keeping.{SameHead, at_multiplier, other_place, written, put_multiplier, kept}
+use Rattle.reader.proofs.Keeping.{SameHead, at_multiplier, misplaced, written, put_multiplier, kept}
 use Rattle.reader.proofs.machine.Machine.keep_multiplier.Goals as goal
 
 pub returns-in_err-check_place : goal.returns-in_err-check_place
 returns-in_err-check_place c =
     let m = c.args.self.now in
-    let at = at_multiplier m c.args.k c.requires in
+    let k = c.args.k in
     let p = err_from_is_err_and c.from_residual.result c.from_residual.ensures.1 in
     let h = c.in_err-check_place.ensures in
-    rw (p.1, p.2) (
-      h.0,
-      λ o. other_place 48 52 c.args.k c.args.place.bytes.now c.args.value.bytes.now c.args.place.sized (omega (arith, at.1, m.contents.fewer)) h.1
-          (subst (λ s. InTurn s (48 ∷ 52 ∷ (c.args.place.bytes.now ++ c.args.value.bytes.now))) c.requires o).leads,
-    )
+    let few : k < 240 = omega (arith, (at_multiplier m k c.requires).1, m.contents.fewer) in
+    rw (p.1, p.2) (h.0, misplaced m (Multiplier k) k 48 52 c.args.place.bytes.now c.args.value.bytes.now c.requires refl c.args.place.sized few h.1)
 
 pub returns : goal.returns
 unfolding multiplier_text

@@ -1,24 +1,19 @@
-use Rattle.std.proofs.Common.{◌∷◌, ◌++◌, set, nat_abs, ap, ◌∙◌, subst, arith, w64, SFits, rules}
+use Rattle.std.proofs.Common.{refl, ◌<◌, ◌++◌, set, nat_abs, ap, ◌∙◌, arith, w64, SFits, rules}
 use Rattle.std.proofs.lemmas.Result.{err_from_is_err_and}
 use Rattle.archive.specs.File.{reading_text}
 use Rattle.kinds.specs.declared.reading.Reading.{Reading as NotedReading}
 use Rattle.reader.specs.declared.stage.Stage.TheVariants.{Reading}
-use Rattle.reader.specs.Frames.{InTurn}
-use Rattle.reader.proofs.Keeping.{SameHead, at_reading, other_place, written, fits_read, stored, put_reading, kept}
+use Rattle.reader.proofs.Keeping.{SameHead, at_reading, misplaced, written, fits_read, stored, put_reading, kept}
 use Rattle.reader.proofs.machine.Machine.keep_reading.Goals as goal
 
 pub returns-in_err-check_place : goal.returns-in_err-check_place
 returns-in_err-check_place c =
     let m = c.args.self.now in
-    let rest = c.args.minute.bytes.now ++ (c.args.crude.bytes.now ++ c.args.weight.bytes.now) in
-    let at = at_reading m c.args.k c.requires in
+    let k = c.args.k in
     let p = err_from_is_err_and c.from_residual.result c.from_residual.ensures.1 in
     let h = c.in_err-check_place.ensures in
-    rw (p.1, p.2) (
-      h.0,
-      λ o. other_place 48 50 c.args.k c.args.place.bytes.now rest c.args.place.sized (omega (arith, at.1, m.contents.few)) h.1
-          (subst (λ s. InTurn s (48 ∷ 50 ∷ (c.args.place.bytes.now ++ rest))) c.requires o).leads,
-    )
+    let few : k < 240 = omega (arith, (at_reading m k c.requires).1, m.contents.few) in
+    rw (p.1, p.2) (h.0, misplaced m (Reading k) k 48 50 c.args.place.bytes.now (c.args.minute.bytes.now ++ (c.args.crude.bytes.now ++ c.args.weight.bytes.now)) c.requires refl c.args.place.sized few h.1)
 
 pub returns : goal.returns
 unfolding reading_text
