@@ -34,7 +34,7 @@ impl Lopsided {
     }
 }
 
-// Kept so: one `impl<S: Sided> Penalty for S` for this kind and Absolute is refused, since `Penalty` is another crate's.
+// Kept so: one `impl<S: Sided> Penalty for S` for this and Absolute is refused: `Penalty` is another crate's.
 impl Penalty for Lopsided {
     ghost meaning = { λ k. lopsided k.sides.rise k.sides.fall };
 

@@ -73,9 +73,9 @@ impl Sides {
         if !(0..=MOST_WEIGHT).contains(&weight) || !(1..=MOST_DENOMINATOR).contains(&denominator) {
             return None;
         }
-        let reach = denominator.unsigned_abs() * weight.unsigned_abs();
-        let highest = (reach * u64::from(self.rise)) as i64;
-        let lowest = (reach * u64::from(self.fall)) as i64;
-        Some(-lowest..=highest)
+        let reach = denominator as u32 * weight as u32;
+        let highest = i64::from(reach * self.rise);
+        let lowest = -i64::from(reach * self.fall);
+        Some(lowest..=highest)
     }
 }
