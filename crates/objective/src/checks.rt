@@ -71,6 +71,7 @@ pub fn check_readings(readings: &[Reading]) -> Result<(), Refusal>
     ensures { result ≡ answer (readings_no readings.now) tt }
 {
     let mut last = None;
+    // Kept so: the place is what a refusal names, and no index.
     for (place, reading) in readings.iter().enumerate() {
         check_reading(place, place, last, reading)?;
         last = Some(reading.minute);

@@ -33,7 +33,7 @@ fn minutes_of(readings: &[Reading]) -> [i64; 240]
     ensures { take (length readings.now) result ≡ minutes readings.now }
 {
     let mut minutes = [0; 240];
-    // Kept so: a zip with `iter_mut` was tried, and the proof then knows nothing of the array after the loop.
+    // Kept so: a zip with `iter_mut` and `array::from_fn` were tried, and what the array holds was not proved.
     for (at, reading) in readings.iter().enumerate() {
         minutes[at] = reading.minute;
     }
@@ -71,6 +71,7 @@ impl<'a, R: Roughness, M: Penalty, B: Penalty> Firing<'a, R, M, B> {
     }
 
     // The rows of a table, which the roughness does not refuse.
+    // Kept so: rows and columns differ in the trait's method, in both lengths and in what is promised.
     pub(crate) fn fill_rows(&self, table: &[i64], rows: &mut [i64]) -> Result<(), Refusal>
         requires long { length table.now ≡ length self.now.readings.now }
         requires small { largest table.now ≤ 20000 }

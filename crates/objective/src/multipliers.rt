@@ -79,6 +79,7 @@ impl<'a, R: Roughness, M: Penalty, B: Penalty> Firing<'a, R, M, B> {
         requires long { length columns.now ≡ length self.now.readings.now }
         ensures { result ≡ answer (columns_no (M.meaning self.now.kinds.now.misfit) (unsigned_abs denominator.value) columns.now self.now.readings.now) tt }
     {
+        // Kept so: the place is what a refusal names, and no index.
         for (place, (column, reading)) in columns.iter().zip(self.readings).enumerate() {
             if !self.misfit_allows(denominator, *column, reading) {
                 return Err(Refusal {
@@ -103,7 +104,7 @@ impl<'a, R: Roughness, M: Penalty, B: Penalty> Firing<'a, R, M, B> {
         sum
     }
 
-    // The floor of multipliers, with their columns written at the start of `columns` once these are known to be allowed.
+    // The floor of multipliers. Their columns are written at the start of `columns` once they are known to be allowed.
     pub(crate) fn weigh_multipliers(
         &self,
         denominator: i64,

@@ -1,4 +1,5 @@
 // The ranges of settings and values.
+// Kept so: constants `1..=1000` and the like were tried, and a constant's value may not make a range.
 ghost use Rattle.std.specs.Prelude.{◌≡◌, ◌*◌, ◌^◌, ◌≤◌, true, false, unsigned_abs, MatchResult};
 ghost use Rattle.kinds.specs.declared.refusal.Cause.TheVariants.{Denominator as OffRange};
 ghost use Rattle.kinds.specs.Checks.{at};

@@ -11,7 +11,7 @@ use kinds::refusal::Cause;
 fn is_known(byte: u8) -> bool
     ensures { result ≡ is_known byte }
 {
-    is_digit(byte) || byte == 10
+    is_digit(byte) || byte == b'\n'
 }
 
 // Whether all bytes are digits or end bytes. It goes over all of them, so that it takes many bytes at a time: `all`, which
@@ -32,7 +32,7 @@ fn line_end(bytes: &[u8]) -> usize
 {
     bytes
         .iter()
-        .position(|byte| *byte == 10)
+        .position(|byte| *byte == b'\n')
         .unwrap_or(bytes.len())
 }
 
@@ -65,27 +65,16 @@ pub(crate) struct Lines<'a> {
 impl<'a> Lines<'a> {
     ghost use Rattle.reader.specs.Turns.{Next};
 
-    pub(crate) fn of(file: &'a [u8]) -> Lines<'a>
+    // The lines of a file, `known` where all its bytes are digits or end bytes.
+    pub(crate) fn new(file: &'a [u8], known: bool) -> Lines<'a>
+        requires { known ≡ true → Known file.now }
         ensures rest { result.rest.now ≡ file.now }
         ensures taken { result.taken ≡ 0 }
     {
         Lines {
             rest: file,
             taken: 0,
-            known: all_known(file),
-        }
-    }
-
-    // The same for a file of good lines, without a look at its bytes.
-    pub(crate) fn of_good(file: &'a [u8]) -> Lines<'a>
-        requires { Whole file.now }
-        ensures rest { result.rest.now ≡ file.now }
-        ensures taken { result.taken ≡ 0 }
-    {
-        Lines {
-            rest: file,
-            taken: 0,
-            known: true,
+            known,
         }
     }
 
@@ -110,7 +99,7 @@ impl<'a> Lines<'a> {
             return Ok(None);
         }
         let end = self.leading_digits();
-        if end == self.rest.len() || self.rest[end] != 10 || end < 2 || end > 60 {
+        if end == self.rest.len() || self.rest[end] != b'\n' || end < 2 || end > 60 {
             return Err(Fault::new(Layer::Lines, Cause::Line, self.taken + 1));
         }
         let (line, more) = self.rest.split_at(end);
@@ -124,7 +113,7 @@ impl<'a> Lines<'a> {
 pub(crate) fn check_lines(file: &[u8]) -> Result<(), Fault>
     ensures { MatchResult result (λ _. Whole file.now) (λ f. FirstBroken file.now f) }
 {
-    let mut lines = Lines::of(file);
+    let mut lines = Lines::new(file, all_known(file));
     while let Some(_line) = lines.next_line()? {}
     if lines.taken == 0 {
         return Err(Fault::new(Layer::Lines, Cause::Line, 1));

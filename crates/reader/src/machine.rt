@@ -18,17 +18,19 @@ use kinds::reading::Reading;
 use kinds::refusal::Cause;
 
 // The figures of a head, from its fields.
-fn head_of(fields: HeadFields<'_>) -> Head
-    ensures { HeadRead fields.entry result }
-{
-    Head {
-        roughness: fields.roughness.figure(),
-        misfit: fields.misfit.figure(),
-        bend: fields.bend.figure(),
-        readings: fields.readings.figure(),
-        stiffness: fields.stiffness.figure(),
-        denominator: fields.denominator.figure(),
-        allowance: fields.allowance.figure(),
+impl From<HeadFields<'_>> for Head {
+    ghost from_gives = { λ fields head. HeadRead fields head };
+
+    fn from(fields: HeadFields<'_>) -> Head {
+        Head {
+            roughness: fields.roughness.figure(),
+            misfit: fields.misfit.figure(),
+            bend: fields.bend.figure(),
+            readings: fields.readings.figure(),
+            stiffness: fields.stiffness.figure(),
+            denominator: fields.denominator.figure(),
+            allowance: fields.allowance.figure(),
+        }
     }
 }
 
@@ -37,16 +39,14 @@ fn head_of(fields: HeadFields<'_>) -> Head
 fn check_head(wanted: Option<Wanted>, edition: u64, head: Head, at: usize) -> Result<usize, Fault>
     ensures { HeadChecked wanted edition head at result }
 {
-    let Some(wanted) = wanted else {
+    let Some(wanted) = wanted.filter(|wanted| {
+        edition == 1
+            && head.roughness == u64::from(wanted.roughness)
+            && head.misfit == u64::from(wanted.misfit)
+            && head.bend == u64::from(wanted.bend)
+    }) else {
         return Err(Fault::new(Layer::Frames, Cause::Mark, at));
     };
-    if edition != 1
-        || head.roughness != u64::from(wanted.roughness)
-        || head.misfit != u64::from(wanted.misfit)
-        || head.bend != u64::from(wanted.bend)
-    {
-        return Err(Fault::new(Layer::Frames, Cause::Mark, at));
-    }
     if head.readings > 240 {
         return Err(Fault::new(Layer::Frames, Cause::Full, at));
     }
@@ -125,6 +125,7 @@ impl Machine {
         Ok(())
     }
 
+    // Kept so: the next goes to another list and is read in another way; what they share is `check_place` and `advance`.
     fn keep_entry(
         &mut self,
         k: usize,
@@ -181,7 +182,7 @@ impl Machine {
     ) -> Result<(), Fault>
         ensures { HeadStepped wanted (frame_text (HeadFrame fields.entry)) at self.new result }
     {
-        let head = head_of(fields);
+        let head = Head::from(fields);
         let count = check_head(wanted, fields.edition.figure(), head, at)?;
         self.contents.head = head;
         self.contents.count = count;
@@ -199,6 +200,7 @@ impl Machine {
     ) -> Result<(), Fault>
         ensures { Stepped wanted (frame_text frame.entry) at self.old self.new result }
     {
+        // Kept so: stage and frame decide together, and each pair hands over its own fields; closures would be no plainer.
         match (self.stage, frame) {
             (Stage::Head, Frame::Head(fields)) => self.keep_head(wanted, fields, at),
             (

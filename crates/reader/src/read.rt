@@ -16,7 +16,8 @@ fn read_frames(file: &[u8], wanted: Option<Wanted>) -> Result<Contents, Fault>
     requires { Whole file.now }
     ensures { FramesRead wanted file.now result }
 {
-    let mut lines = Lines::of_good(file);
+    // in good lines all bytes are known
+    let mut lines = Lines::new(file, true);
     let mut machine = Machine::new();
     while let Some(line) = lines.next_line()? {
         let frame = read_frame(line, lines.taken)?;

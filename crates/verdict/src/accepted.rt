@@ -8,16 +8,11 @@ use kinds::reading::Reading;
 use kinds::refusal::{Cause, Refusal};
 use reader::contents::Contents;
 
-const NO_PLACE: Refusal = Refusal {
-    cause: Cause::Place,
-    place: 0,
-};
-
 // The figure at a place of a list.
 fn figure_at<T: Copy>(figures: &[T], place: usize) -> Result<T, Refusal>
     ensures { (past : T) → result ≡ figure_at figures.now place past }
 {
-    figures.get(place).copied().ok_or(NO_PLACE)
+    figures.get(place).copied().ok_or(Cause::Place.into())
 }
 
 pub fn reading(contents: &Contents, place: usize) -> Result<Reading, Refusal>
@@ -29,7 +24,7 @@ pub fn reading(contents: &Contents, place: usize) -> Result<Reading, Refusal>
 pub fn entry(contents: &Contents, place: usize) -> Result<i64, Refusal>
     ensures { result ≡ figure_at (figures_of contents.now).entries place (pos 0) }
 {
-    figure_at(&contents.entries[0..contents.head.readings as usize], place)
+    figure_at(contents.entries(), place)
 }
 
 pub fn multiplier(contents: &Contents, place: usize) -> Result<i64, Refusal>

@@ -22,7 +22,7 @@ use reader::fault::Fault;
 // Whether the gap of the stated cost and floor is within the allowance.
 fn is_within(contents: &Contents) -> bool
     requires { head_no contents.now.head ≡ None }
-    ensures { result ≡ within contents.now.head.denominator contents.now.cost contents.now.floor contents.now.head.allowance }
+    ensures { let g = contents.now in result ≡ within g.head.denominator g.cost g.floor g.head.allowance }
 {
     let denominator = contents.head.denominator as i64;
     let allowance = contents.head.allowance as i64;
@@ -32,7 +32,7 @@ fn is_within(contents: &Contents) -> bool
 // The end, in the last line: cost and floor against those that are stated, then their gap.
 fn check_end(contents: &Contents, cost: u64, floor: i64) -> Result<(), Fault>
     requires { head_no contents.now.head ≡ None }
-    ensures { MatchResult result (λ _. EndFine (figures_of contents.now) cost floor) (λ f. EndOff (figures_of contents.now) cost floor f) }
+    ensures { let g = figures_of contents.now in MatchResult result (λ _. EndFine g cost floor) (EndOff g cost floor) }
 {
     let end = Lines::of(contents).end;
     if contents.cost != cost || contents.floor != floor {
@@ -51,7 +51,7 @@ pub(crate) fn check_figures<R: Roughness, M: Penalty, B: Penalty>(
 ) -> Result<(), Fault>
     requires kinds { kinds_no (⟦<Kinds<R, M, B> as Meant>⟧.meaning kinds.now) ≡ None }
     requires form { InForm (wanted_of (⟦<Kinds<R, M, B> as Meant>⟧.meaning kinds.now)) (figures_of contents.now) }
-    ensures { MatchResult result (λ _. Lawful (⟦<Kinds<R, M, B> as Meant>⟧.meaning kinds.now) (figures_of contents.now) × NearTheBest (⟦<Kinds<R, M, B> as Meant>⟧.meaning kinds.now) (figures_of contents.now)) (λ f. Least (Wrong (⟦<Kinds<R, M, B> as Meant>⟧.meaning kinds.now) (figures_of contents.now)) f) }
+    ensures { let k = ⟦<Kinds<R, M, B> as Meant>⟧.meaning kinds.now in let g = figures_of contents.now in MatchResult result (λ _. Lawful k g × NearTheBest k g) (Least (Wrong k g)) }
 {
     check_given(contents)?;
     let cost = weigh_entries(kinds, contents)?;

@@ -14,6 +14,7 @@ use reader::fault::Fault;
 use reader::read::read_file;
 
 // The marks and the reach that the kinds tell.
+// Kept so: an `impl From` is refused here, since both types are other crates'.
 fn wanted_by<R: Roughness, M: Penalty, B: Penalty>(kinds: &Kinds<R, M, B>) -> Wanted
     ensures { Some result ≡ wanted_of (⟦<Kinds<R, M, B> as Meant>⟧.meaning kinds.now) }
 {

@@ -27,7 +27,7 @@ fn check_head(head: &Head) -> Result<(), Refusal>
 
 // The head, then the readings.
 pub(crate) fn check_given(contents: &Contents) -> Result<(), Fault>
-    ensures { MatchResult result (λ _. InOrder (figures_of contents.now)) (λ f. (k : KindsMeaning) → Least (Wrong k (figures_of contents.now)) f) }
+    ensures { let g = figures_of contents.now in MatchResult result (λ _. InOrder g) (λ f. (k : KindsMeaning) → Least (Wrong k g) f) }
 {
     let lines = Lines::of(contents);
     check_head(&contents.head).map_err(|refusal| fault_from(lines.head, refusal))?;

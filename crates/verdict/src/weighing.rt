@@ -23,7 +23,7 @@ pub(crate) fn weigh_entries<R: Roughness, M: Penalty, B: Penalty>(
     contents: &Contents,
 ) -> Result<u64, Fault>
     requires { Ready (⟦<Kinds<R, M, B> as Meant>⟧.meaning kinds.now) (figures_of contents.now) }
-    ensures { MatchResult result (λ cost. Tabled (⟦<Kinds<R, M, B> as Meant>⟧.meaning kinds.now) (figures_of contents.now) cost) (λ f. Least (Wrong (⟦<Kinds<R, M, B> as Meant>⟧.meaning kinds.now) (figures_of contents.now)) f) }
+    ensures { let k = ⟦<Kinds<R, M, B> as Meant>⟧.meaning kinds.now in let g = figures_of contents.now in MatchResult result (Tabled k g) (Least (Wrong k g)) }
 {
     let mut rows = [0; 240];
     weigh_table(
@@ -38,8 +38,8 @@ pub(crate) fn weigh_entries<R: Roughness, M: Penalty, B: Penalty>(
 
 // A refusal of multipliers, at its line. A column stands at its reading.
 fn slope_fault(contents: &Contents, refusal: Refusal) -> Fault
-    ensures multiplier { refusal.cause ≡ Multiplier → result ≡ fault Layer.Figures Multiplier ((lines_of (figures_of contents.now)).multipliers + refusal.place) }
-    ensures column { refusal.cause ≡ Column → result ≡ fault Layer.Figures Column ((lines_of (figures_of contents.now)).readings + refusal.place) }
+    ensures multiplier { let lines = lines_of (figures_of contents.now) in refusal.cause ≡ Multiplier → result ≡ fault Layer.Figures Multiplier (lines.multipliers + refusal.place) }
+    ensures column { let lines = lines_of (figures_of contents.now) in refusal.cause ≡ Column → result ≡ fault Layer.Figures Column (lines.readings + refusal.place) }
 {
     let lines = Lines::of(contents);
     match refusal.cause {
@@ -55,7 +55,7 @@ pub(crate) fn weigh_slopes<R: Roughness, M: Penalty, B: Penalty>(
 ) -> Result<i64, Fault>
     requires ready { Ready (⟦<Kinds<R, M, B> as Meant>⟧.meaning kinds.now) (figures_of contents.now) }
     requires values { first_off is_value (figures_of contents.now).entries ≡ None }
-    ensures { MatchResult result (λ floor. Floored (⟦<Kinds<R, M, B> as Meant>⟧.meaning kinds.now) (figures_of contents.now) floor) (λ f. Least (Wrong (⟦<Kinds<R, M, B> as Meant>⟧.meaning kinds.now) (figures_of contents.now)) f) }
+    ensures { let k = ⟦<Kinds<R, M, B> as Meant>⟧.meaning kinds.now in let g = figures_of contents.now in MatchResult result (Floored k g) (Least (Wrong k g)) }
 {
     let mut columns = [0; 240];
     weigh_multipliers(

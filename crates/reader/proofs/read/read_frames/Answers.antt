@@ -7,8 +7,12 @@ use Rattle.reader.specs.Frames.{InTurn}
 use Rattle.reader.specs.Lines.{pieces}
 use Rattle.reader.specs.Shapes.{frame_text}
 use Rattle.reader.specs.Steps.{Stepped}
+use Rattle.reader.proofs.Cuts.{whole_known}
 use Rattle.reader.proofs.Order.{Reached, turned, odd, refused, taken, missing, finished, long_fits}
 use Rattle.reader.proofs.read.read_frames.Goals as goal
+
+pub new-lines-requires : goal.new-lines-requires
+new-lines-requires c = λ _. whole_known c.args.file.now c.requires
 
 pub returns-in_err-frame : goal.returns-in_err-frame
 returns-in_err-frame c =
