@@ -10,11 +10,7 @@ pub at_spelling : {A : Type 0} (f : List ℕ → A) (text spelling : List ℕ) �
     → (said : A) → said ≡ f spelling → said ≡ f text
 at_spelling f text spelling long bytes said e = e ∙ ap f (sym (text_from_reads text spelling long bytes))
 
--- `strip_prefix` and `starts_with`, where the prefix is one byte
-pub strip_begins : (c : ℕ) (text : List ℕ) → pointwise eqb (take 1 text) (c ∷ []) ≡ begins c text
-strip_begins c [] = refl
-strip_begins c (b ∷ bs) = grind (arith, nat_tests)
-
+-- `starts_with`, where the prefix is one byte
 pub starts_begins : (c : ℕ) (text : List ℕ) → pointwise eqb (c ∷ []) (take 1 text) ≡ begins c text
 starts_begins c [] = refl
 starts_begins c (b ∷ bs) = grind (arith, nat_tests)

@@ -10,6 +10,7 @@ use crate::figures::figure;
 use crate::spellings::{PenaltyWord, RoughnessWord, penalty, roughness};
 
 // What a word can stand for.
+// Kept so: `TryFrom<&[u8]>` would want an error type for each, where a word that cannot be read is just `None`.
 pub(crate) trait FromWord: Sized {
     // What each word stands for, if it can be read so.
     ghost read_as: { List ℕ → Option Self };

@@ -18,6 +18,7 @@ pub(crate) fn cut<'a>(text: &'a [u8], marks: &[u8]) -> (&'a [u8], &'a [u8])
 }
 
 // The words of a line, from the first that was not handed out yet.
+// Kept so: no `impl Model` hides the bytes, since a type with a model and a lifetime can't be `Copy`.
 #[derive(Clone, Copy)]
 pub struct Words<'a> {
     rest: &'a [u8],

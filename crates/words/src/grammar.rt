@@ -135,8 +135,8 @@ fn read_multipliers(mut words: Words, figures: &mut [i64]) -> Option<Line>
     Some(Line::Multipliers { denominator, count })
 }
 
-// Kept so: two of the five readers write figures, so the place is a parameter of theirs and no field with the words.
 // The line that a call's name and the words behind it give, if they give one.
+// Kept so: two of the five readers write figures, so a `match` and a place beside the words are plainer than a struct.
 fn read_call(name: &[u8], words: Words, figures: &mut [i64]) -> Option<Line>
     ensures line { result ≡ call_line name.now (words_left words.entry) }
     ensures place { figures.new ≡ place_after (call_listed name.now (words_left words.entry)) figures.old }
