@@ -32,8 +32,8 @@ fn value_of(byte: u8) -> u64
     (wide % 16 + wide / 64 * 9) % 16
 }
 
-// Fills `place` with the last digits of `figure`, as many as it holds, with zeros in front: the last of them comes first,
-// and then they are turned round.
+// Fills `place` with the last digits of `figure`, as many as it holds, with zeros in front. They are written last digit
+// first, and then turned round.
 pub fn write_field(place: &mut [u8], figure: u64)
     ensures { place.new ≡ field (length place.old) figure }
 {

@@ -16,7 +16,7 @@ const MARK: u16 = 257;
 #[derive(Clone, Copy)]
 pub struct First;
 
-// Kept so: but for three numbers and two calls Slope's impl is the same; a helper that takes the calls is longer than the four bodies.
+// Kept so: Slope's impl is the same but for three numbers and two calls; a helper that takes the calls is no shorter.
 impl Roughness for First {
     ghost meaning = { λ k. first };
 

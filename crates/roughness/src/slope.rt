@@ -16,7 +16,7 @@ const MARK: u16 = 514;
 #[derive(Clone, Copy)]
 pub struct Slope;
 
-// Kept so: but for three numbers and two calls First's impl is the same; a helper that takes the calls is longer than the four bodies.
+// Kept so: First's impl is the same but for three numbers and two calls; a helper that takes the calls is no shorter.
 impl Roughness for Slope {
     ghost meaning = { λ k. slope };
 
