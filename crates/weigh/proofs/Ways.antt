@@ -1,5 +1,5 @@
 -- What a call answers and leaves, once it is known what its checks say, and the rows and columns that are read again.
-use Rattle.std.proofs.Common.{◌≡◌, ℕ, ◌-◌, List, length, take, ℤ, Some, None, Ok, Err, Option, sym, ap, ◌∙◌, arith}
+use Rattle.std.proofs.Common.{◌≡◌, ℕ, ◌-◌, List, length, take, ℤ, Some, None, Ok, Err, Option, sym, ap, ◌∙◌}
 use Rattle.kinds.specs.declared.reading.Reading.{Reading}
 use Rattle.kinds.specs.declared.refusal.Refusal.{Refusal}
 use Rattle.kinds.specs.Checks.{answer}

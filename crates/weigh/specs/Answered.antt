@@ -6,7 +6,8 @@
 --     said                  an answer where checks pass, and the refusal else
 --     table_answer, multipliers_answer      what a table and multipliers on a firing come to
 --     table_leaves, multipliers_leave       the firing after them, if they are accepted
---     line_answer, call_answer      what a line comes to that is no kinds: of its figures, and the room for rows or columns
+--     line_answer, call_answer      what a line comes to that is no kinds: of its figures, and the room for rows or
+--                           columns
 --     line_leaves, call_leaves      the firing after it, if it is accepted
 --     Begun                 a fresh firing with kinds of such a meaning is at hand
 --     Starts                such a firing is at hand once kinds are taken, and else the old one stays
@@ -65,13 +66,17 @@ said None a = Ok a
 said (Some r) a = Err (Refused r)
 
 abbrev pub table_answer : Firing → List ℤ → ℕ → Result Told No
-table_answer f vs room = said (table_no f vs room) (table (cost_of (kinds_of f) (unsigned_abs f.given.stiffness) (noted f) vs) (rows_of (kinds_of f) (noted f) vs))
+table_answer f vs room =
+    said (table_no f vs room)
+    (table (cost_of (kinds_of f) (unsigned_abs f.given.stiffness) (noted f) vs)
+    (rows_of (kinds_of f) (noted f) vs))
 
 abbrev pub table_leaves : Firing → List ℤ → Firing
 table_leaves f vs = with_cost f (cost_of (kinds_of f) (unsigned_abs f.given.stiffness) (noted f) vs)
 
 abbrev pub multipliers_answer : Firing → ℤ → List ℤ → ℕ → Result Told No
-multipliers_answer f d ms room = said (multipliers_no f d ms room) (multipliers (floor_of (kinds_of f) (noted f) ms) (columns_of (kinds_of f) (noted f) ms))
+multipliers_answer f d ms room =
+    said (multipliers_no f d ms room) (multipliers (floor_of (kinds_of f) (noted f) ms) (columns_of (kinds_of f) (noted f) ms))
 
 abbrev pub multipliers_leave : Firing → ℤ → List ℤ → Firing
 multipliers_leave f d ms = with_floor f (floor_of (kinds_of f) (noted f) ms) d
@@ -80,18 +85,22 @@ abbrev pub line_answer : Firing → Line → List ℤ → ℕ → Result Told No
 line_answer f line.Blank figures room = Err NotACall
 line_answer f (line.Kinds roughness misfit bend) figures room = Err NotACall
 line_answer f (line.Set stiffness allowance) figures room = said (settings_no stiffness allowance) done
-line_answer f (line.Note minute crude weight) figures room = said (next_no (noted f) (record { minute = minute; crude = crude; weight = weight })) done
+line_answer f (line.Note minute crude weight) figures room =
+    said (next_no (noted f) (record { minute = minute; crude = crude; weight = weight })) done
 line_answer f (line.Table count) figures room = table_answer f (take (min count (length figures)) figures) room
-line_answer f (line.Multipliers denominator count) figures room = multipliers_answer f denominator (take (min count (length figures)) figures) room
+line_answer f (line.Multipliers denominator count) figures room =
+    multipliers_answer f denominator (take (min count (length figures)) figures) room
 line_answer f line.Unknown figures room = Err NotACall
 
 abbrev pub line_leaves : Firing → Line → List ℤ → Firing
 line_leaves f line.Blank figures = f
 line_leaves f (line.Kinds roughness misfit bend) figures = f
 line_leaves f (line.Set stiffness allowance) figures = with_settings f stiffness allowance
-line_leaves f (line.Note minute crude weight) figures = with_reading f (record { minute = minute; crude = crude; weight = weight })
+line_leaves f (line.Note minute crude weight) figures =
+    with_reading f (record { minute = minute; crude = crude; weight = weight })
 line_leaves f (line.Table count) figures = table_leaves f (take (min count (length figures)) figures)
-line_leaves f (line.Multipliers denominator count) figures = multipliers_leave f denominator (take (min count (length figures)) figures)
+line_leaves f (line.Multipliers denominator count) figures =
+    multipliers_leave f denominator (take (min count (length figures)) figures)
 line_leaves f line.Unknown figures = f
 
 -- of the firing at hand, a line that is neither blank nor kinds, its figures and the room
@@ -112,17 +121,24 @@ abbrev pub Starts : Option Firing → Result KindsMeaning No → Result Told No 
 Starts before (Ok k) a after = (a ≡ Ok done) × Begun k after
 Starts before (Err why) a after = (a ≡ Err why) × (after ≡ before)
 
--- of the firing before, a line that is neither blank nor kinds, its figures and the room, the answer, and the firing after
+-- of the firing before, a line that is neither blank nor kinds, its figures and the room, the answer, and the firing
+-- after
 abbrev pub Called : Option Firing → Line → List ℤ → ℕ → Option (Result Told No) → Option Firing → Type 0
 Called before said_line figures room a after =
-    IsSomeAnd a (λ r. (r ≡ call_answer before said_line figures room) × MatchResult r (λ _. after ≡ call_leaves before said_line figures) (λ _. after ≡ before))
+    IsSomeAnd a (λ r. (r ≡ call_answer before said_line figures room)
+    × MatchResult r (λ _. after ≡ call_leaves before said_line figures) (λ _. after ≡ before))
 
 -- of the firing before, a line with its figures and the room, the answer, and the firing after
 abbrev pub Answers : Option Firing → Line → List ℤ → ℕ → Option (Result Told No) → Option Firing → Type 0
 Answers before line.Blank figures room a after = (a ≡ None) × (after ≡ before)
-Answers before (line.Kinds roughness misfit bend) figures room a after = IsSomeAnd a (λ r. Starts before (named_kinds roughness misfit bend) r after)
-Answers before (line.Set stiffness allowance) figures room a after = Called before (line.Set stiffness allowance) figures room a after
-Answers before (line.Note minute crude weight) figures room a after = Called before (line.Note minute crude weight) figures room a after
-Answers before (line.Table count) figures room a after = Called before (line.Table count) figures room a after
-Answers before (line.Multipliers denominator count) figures room a after = Called before (line.Multipliers denominator count) figures room a after
+Answers before (line.Kinds roughness misfit bend) figures room a after =
+    IsSomeAnd a (λ r. Starts before (named_kinds roughness misfit bend) r after)
+Answers before (line.Set stiffness allowance) figures room a after =
+    Called before (line.Set stiffness allowance) figures room a after
+Answers before (line.Note minute crude weight) figures room a after =
+    Called before (line.Note minute crude weight) figures room a after
+Answers before (line.Table count) figures room a after =
+    Called before (line.Table count) figures room a after
+Answers before (line.Multipliers denominator count) figures room a after =
+    Called before (line.Multipliers denominator count) figures room a after
 Answers before line.Unknown figures room a after = Called before line.Unknown figures room a after

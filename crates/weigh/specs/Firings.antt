@@ -27,7 +27,8 @@ abbrev pub nothing : Weighed
 nothing = record { cost = None; floor = None }
 
 abbrev pub fresh : Kinds KnownRoughness KnownPenalty KnownPenalty → Firing
-fresh k = record { given = record { kinds = k; stiffness = pos 1; allowance = pos 0; readings = [] }; weighed = nothing }
+fresh k =
+    record { given = record { kinds = k; stiffness = pos 1; allowance = pos 0; readings = [] }; weighed = nothing }
 
 abbrev pub with_settings : Firing → ℤ → ℤ → Firing
 with_settings f h g = record { given = record f.given { stiffness = h; allowance = g }; weighed = nothing }
@@ -40,14 +41,17 @@ with_cost f cost = record f { weighed = record f.weighed { cost = Some cost } }
 
 -- of the floor and its denominator
 abbrev pub with_floor : Firing → ℤ → ℤ → Firing
-with_floor f floor d = record f { weighed = record f.weighed { floor = Some (record { value = floor; denominator = d }) } }
+with_floor f floor d =
+    record f { weighed = record f.weighed { floor = Some (record { value = floor; denominator = d }) } }
 
 abbrev pub gap_over : ℤ → Result Gap Refusal → Option GapOver
 gap_over d (Ok g) = Some (record { gap = g; denominator = d })
 gap_over d (Err r) = None
 
 abbrev pub gap_told_over : Floor → ℕ → ℤ → Option GapOver
-gap_told_over f cost allowance = gap_over f.denominator (answer (gap_no f.denominator allowance) (gap_told cost f.value (unsigned_abs f.denominator) (unsigned_abs allowance)))
+gap_told_over f cost allowance =
+    gap_over f.denominator
+    (answer (gap_no f.denominator allowance) (gap_told cost f.value (unsigned_abs f.denominator) (unsigned_abs allowance)))
 
 abbrev pub gap_between : Option ℕ → Option Floor → ℤ → Option GapOver
 gap_between None floor allowance = None

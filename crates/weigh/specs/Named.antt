@@ -41,7 +41,8 @@ with_penalties (Some r) (Ok m) (Err why) = Err (Refused why)
 with_penalties (Some r) (Ok m) (Ok b) = Ok (three r m b)
 
 abbrev pub named_kinds : RoughnessWord → PenaltyWord → PenaltyWord → Result KindsMeaning No
-named_kinds roughness misfit bend = with_penalties (named_roughness roughness) (named_penalty misfit) (named_penalty bend)
+named_kinds roughness misfit bend =
+    with_penalties (named_roughness roughness) (named_penalty misfit) (named_penalty bend)
 
 abbrev pub maybe_meaning : Option KnownRoughness → Option RoughnessMeaning
 maybe_meaning None = None

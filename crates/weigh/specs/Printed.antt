@@ -24,7 +24,8 @@ figures_text fs = flat_map (λ f. codes " " ++ signed_decimal f) fs
 abbrev pub answer_text : Answer → List ℕ
 answer_text Done = codes "ok"
 answer_text (Table cost rows) = codes "rows" ++ figures_text rows.now ++ codes " cost " ++ decimal cost
-answer_text (Multipliers floor columns) = codes "columns" ++ figures_text columns.now ++ codes " floor " ++ signed_decimal floor
+answer_text (Multipliers floor columns) =
+    codes "columns" ++ figures_text columns.now ++ codes " floor " ++ signed_decimal floor
 
 abbrev pub no_text : ℕ → No → List ℕ
 no_text number (Refused r) = codes "no " ++ decimal (number_of r.cause) ++ codes " " ++ decimal r.place
@@ -41,4 +42,6 @@ abbrev pub side_text : Gap → List ℕ
 side_text g = cond (int_le (pos 0) g.spare) (codes "within") (codes "above")
 
 abbrev pub tally_text : Tally → List ℕ
-tally_text t = decimal t.calls ++ codes " calls, " ++ decimal t.refused ++ codes " refused, " ++ decimal t.unknown ++ codes " lines not understood"
+tally_text t =
+    decimal t.calls ++ codes " calls, " ++ decimal t.refused ++ codes " refused, "
+    ++ decimal t.unknown ++ codes " lines not understood"

@@ -30,7 +30,8 @@ fn penalty_of(word: PenaltyWord) -> Result<KnownPenalty, Refusal>
     }
 }
 
-// The kinds that three words name: no call where there is no such roughness, and a refusal where a penalty is out of range.
+// The kinds that three words name: no call where there is no such roughness, and a refusal where a penalty is out of
+// range.
 pub(crate) fn kinds_of(
     roughness: RoughnessWord,
     misfit: PenaltyWord,
