@@ -1,6 +1,7 @@
 -- Loops over the windows of a list, each of as many figures as the size says.
 --     Before        what a window's iterator has left after k windows: the list from its k-th figure on
 --     Window        one window more: where it stands in the list, and what is left
+--     Figure        one figure more of a list that is gone through beside the windows
 use Rattle.std.proofs.Common.{◌≡◌, ℕ, zero, suc, ◌+◌, ◌<◌, ◌≤◌, true, List, [], ◌∷◌, length, get_or, take, drop, ℤ, pos, sym, ap, ap₂, ◌∙◌, subst, arith}
 use Rattle.std.proofs.lemmas.List.{get_or-take, get_or-drop, drop-drop, length-drop}
 use Rattle.kinds.specs.Figures.{largest}

@@ -3,6 +3,7 @@ ghost use Rattle.std.specs.Prelude.{◌≡◌, ◌+◌, ◌<◌, ◌≤◌, leng
 ghost use Rattle.kinds.specs.Figures.{largest, over};
 ghost use Rattle.roughness.specs.Maps.{differences, differences_back};
 
+// Kept so: four loops ask that figures are at most 10^12; a type of such figures would be made and opened at each call.
 // Each value after the first, minus the one before it.
 pub(crate) fn write_differences(values: &[i64], rows: &mut [i64])
     requires { (largest values.now ≤ 1000000000000) × ((1 ≤ length values.now) × (length values.now ≤ length rows.old + 1)) }
