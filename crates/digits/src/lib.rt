@@ -10,9 +10,9 @@ fn digit_of(number: u8) -> u8
     ensures { result ≡ digit number }
 {
     if number < 10 {
-        48 + number
+        b'0' + number
     } else {
-        55 + number
+        b'A' + (number - 10)
     }
 }
 
@@ -20,7 +20,7 @@ fn digit_of(number: u8) -> u8
 pub fn is_digit(byte: u8) -> bool
     ensures { result ≡ is_digit byte }
 {
-    (byte >= 48 && byte < 58) || (byte >= 65 && byte < 71)
+    matches!(byte, b'0'..=b'9' | b'A'..=b'F')
 }
 
 // What a digit stands for. No test of the byte: A is 65, so a letter has 9 to be added to its low half.
@@ -32,15 +32,17 @@ fn value_of(byte: u8) -> u64
     (wide % 16 + wide / 64 * 9) % 16
 }
 
-// Fills `place` with the last digits of `figure`, as many as it holds, with zeros in front.
+// Fills `place` with the last digits of `figure`, as many as it holds, with zeros in front. They are written last digit
+// first, and then turned round.
 pub fn write_field(place: &mut [u8], figure: u64)
     ensures { place.new ≡ field (length place.old) figure }
 {
     let mut rest = figure;
-    for at in (0..place.len()).rev() {
-        place[at] = digit_of((rest % 16) as u8);
+    for slot in place.iter_mut() {
+        *slot = digit_of((rest % 16) as u8);
         rest /= 16;
     }
+    place.reverse();
 }
 
 // The number that up to 16 digits write, for bytes that are known to be digits.
@@ -60,13 +62,9 @@ pub fn digits_value(bytes: &[u8]) -> u64
 pub fn read_field(bytes: &[u8]) -> Option<u64>
     ensures { Reads bytes.now result }
 {
-    if bytes.len() > 16 {
-        return None;
+    if bytes.len() <= 16 && bytes.iter().all(|byte| is_digit(*byte)) {
+        Some(digits_value(bytes))
+    } else {
+        None
     }
-    for byte in bytes {
-        if !is_digit(*byte) {
-            return None;
-        }
-    }
-    Some(digits_value(bytes))
 }

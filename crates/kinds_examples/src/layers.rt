@@ -1,5 +1,5 @@
 // First raised many times, and places of every length.
-use kinds::refusal::{Cause, Refusal};
+use kinds::refusal::Cause;
 use kinds::roughness::Roughness;
 use roughness::first::First;
 use roughness::raise::Raise;
@@ -27,10 +27,7 @@ fn nine_times_works_from_eleven(rt: HostRuntime) {
     assert_eq!(rt; kind.growth(), 1024);
     assert_eq!(rt; kind.mark(), 266);
     let mut rows = [7];
-    let short = Err(Refusal {
-        cause: Cause::Short,
-        place: 0,
-    });
+    let short = Err(Cause::Short.into());
     assert_eq!(rt; kind.forward(&MINUTES[0..10], &[0; 10], &mut rows), short);
     assert_eq!(rt; rows[0], 7);
     assert_eq!(rt;
@@ -52,10 +49,7 @@ fn ten_times_is_too_steep(rt: HostRuntime) {
     assert_eq!(rt; kind.reach(), 11);
     assert_eq!(rt; kind.growth(), 2001);
     let mut rows = [7];
-    let steep = Err(Refusal {
-        cause: Cause::Steep,
-        place: 0,
-    });
+    let steep = Err(Cause::Steep.into());
     assert_eq!(rt; kind.forward(&MINUTES, &[0; 12], &mut rows), steep);
     assert_eq!(rt; rows[0], 7);
 }

@@ -9,7 +9,7 @@ use roughness::slope::Slope;
 use std::test::Fail;
 
 fn refused(cause: Cause) -> Result<(), Refusal> {
-    Err(Refusal { cause, place: 0 })
+    Err(cause.into())
 }
 
 #[test]

@@ -35,6 +35,10 @@ fn second_order() -> Kinds<Raise<First>, Absolute, Absolute> {
     }
 }
 
+fn refused<T>(cause: Cause, place: usize) -> Result<T, Refusal> {
+    Err(Refusal { cause, place })
+}
+
 #[test]
 fn a_table_and_its_floor(rt: HostRuntime) -> Result<(), Fail> {
     let kinds = second_order();
@@ -63,35 +67,22 @@ fn refusals_name_their_place(rt: HostRuntime) {
     let mut place = [7];
     let mut readings = FIRING;
     readings[2].minute = 62;
-    let minute = Err(Refusal {
-        cause: Cause::Minute,
-        place: 2,
-    });
     assert_eq!(rt;
         weigh_table(&kinds, 1, &readings, &[1, 2, 3], &mut place),
-        minute
+        refused(Cause::Minute, 2)
     );
     readings[1].weight = 101;
-    let weight = Err(Refusal {
-        cause: Cause::Figure,
-        place: 1,
-    });
-    assert_eq!(rt; weigh_table(&kinds, 1, &readings, &[], &mut place), weight);
-    let stiffness = Err(Refusal {
-        cause: Cause::Setting,
-        place: 0,
-    });
+    assert_eq!(rt;
+        weigh_table(&kinds, 1, &readings, &[], &mut place),
+        refused(Cause::Figure, 1)
+    );
     assert_eq!(rt;
         weigh_table(&kinds, 0, &readings, &[], &mut place),
-        stiffness
+        refused(Cause::Setting, 0)
     );
-    let value = Err(Refusal {
-        cause: Cause::Value,
-        place: 1,
-    });
     assert_eq!(rt;
         weigh_table(&kinds, 1, &FIRING, &[1, -1, -1], &mut place),
-        value
+        refused(Cause::Value, 1)
     );
     assert_eq!(rt; place[0], 7);
 }
@@ -100,18 +91,17 @@ fn refusals_name_their_place(rt: HostRuntime) {
 fn the_last_reading_too_many(rt: HostRuntime) -> Result<(), Fail> {
     let kinds = second_order();
     let mut readings = [FIRING[0]; 241];
-    for k in 0..241 {
-        readings[k].minute = k as i64;
+    for (k, reading) in readings.iter_mut().enumerate() {
+        reading.minute = k as i64;
     }
     let table = [100; 241];
     let mut rows = [7; 241];
     assert!(rt; weigh_table(&kinds, 1, &readings[0..240], &table[0..240], &mut rows).is_ok());
     assert_eq!(rt; rows[237], 0);
     assert_eq!(rt; rows[238], 7);
-    let full = Err(Refusal {
-        cause: Cause::Full,
-        place: 240,
-    });
-    assert_eq!(rt; weigh_table(&kinds, 1, &readings, &table, &mut rows), full);
+    assert_eq!(rt;
+        weigh_table(&kinds, 1, &readings, &table, &mut rows),
+        refused(Cause::Full, 240)
+    );
     Ok(())
 }

@@ -1,3 +1,5 @@
 pub mod Products
 pub mod Calls
 pub mod Layer
+pub mod Windows
+pub mod Bent

@@ -12,3 +12,9 @@ pub stored : (op : ℤ → ℤ → ℤ) (a b : ℤ) → SFits w64 a → SFits w6
 stored op a b fa fb h =
     let is = ap₂ op (to_z-of_z w64 a fa) (to_z-of_z w64 b fb) in
     record { fits = rw is (fits64 (op a b) h); same = ap (λ (z : ℤ). to_z w64 (of_z w64 z)) is ∙ back64 (op a b) h }
+
+-- the same where the first number has been read already
+pub onto : (op : ℤ → ℤ → ℤ) (a b : ℤ) → nat_abs b ≤ limit → nat_abs (op a b) ≤ limit → SFits w64 (op a (to_z w64 (of_z w64 b))) × (to_z w64 (of_z w64 (op a (to_z w64 (of_z w64 b)))) ≡ op a b)
+onto op a b hb h =
+    let is = ap (op a) (back64 b hb) in
+    (rw is (fits64 (op a b) h), ap (λ (z : ℤ). to_z w64 (of_z w64 z)) is ∙ back64 (op a b) h)

@@ -4,6 +4,7 @@
 --     differences_back_from   the same, after a multiplier that is given
 --     step                    how far a minute is from the one before it
 --     bend                    how much three values bend, from the two steps between their minutes
+--     shares                  what a multiplier puts into the three columns of its bend
 --     bends                   each three values in a row, as they bend
 --     bends_back              its transpose, of multipliers: two columns more than there are multipliers
 --     bends_back_from         the same, with what earlier multipliers put into the first two columns
@@ -29,6 +30,10 @@ step s t = t -ℤ s
 
 abbrev pub bend : ℤ → ℤ → ℤ → ℤ → ℤ → ℤ
 bend a b v w x = b *ℤ v -ℤ (a +ℤ b) *ℤ w +ℤ a *ℤ x
+
+-- what a multiplier puts into three columns by the two steps, the middle one to be taken from its column
+abbrev pub shares : ℤ → ℤ → ℤ → List ℤ
+shares a b m = (b *ℤ m) ∷ (((a +ℤ b) *ℤ m) ∷ ((a *ℤ m) ∷ []))
 
 -- of minutes and values
 abbrev pub bends : List ℤ → List ℤ → List ℤ

@@ -1,8 +1,7 @@
 -- Lawful minutes, place by place: each step is 1 to 60.
-use Rattle.std.specs.Prelude.{◌≡◌, ℕ, zero, suc, ◌+◌, ◌<◌, ◌≤◌, true, List, [], ◌∷◌, length, ℤ, pos, Some, None, Option, FitsSigned, slice_index_or, unsigned_abs}
-use Rattle.std.proofs.Common.{arith, add-one, to_z, of_z}
-use Rattle.std.specs.Int.{w64}
-use Rattle.std.proofs.lemmas.Int.{to_z-of_z, ints}
+use Rattle.std.specs.Prelude.{◌≡◌, ℕ, zero, suc, ◌+◌, ◌<◌, ◌≤◌, true, List, [], ◌∷◌, length, ℤ, pos, Some, None, Option, slice_index_or, unsigned_abs}
+use Rattle.std.proofs.Common.{arith, add-one}
+use Rattle.std.proofs.lemmas.Int.{ints}
 use Rattle.std.proofs.lemmas.Bool.{and_parts}
 use Rattle.kinds.specs.Minutes.{may_follow, may_come, lawful_from, lawful}
 use Rattle.roughness.specs.Maps.{step}
@@ -18,10 +17,6 @@ follows_at s [] k e h = absurd (omega arith)
 follows_at s (t ∷ ts) zero e h = (lawful_parts (Some s) t ts e).0
 follows_at s (t ∷ ts) (suc k) e h = follows_at t ts k (lawful_parts (Some s) t ts e).1 (omega arith)
 
-lawful_at : (ts : List ℤ) (k : ℕ) → lawful ts ≡ true → k + 1 < length ts → may_follow (slice_index_or ts k (pos 0)) (slice_index_or ts (k + 1) (pos 0)) ≡ true
+pub lawful_at : (ts : List ℤ) (k : ℕ) → lawful ts ≡ true → k + 1 < length ts → may_follow (slice_index_or ts k (pos 0)) (slice_index_or ts (k + 1) (pos 0)) ≡ true
 lawful_at [] k e h = absurd (omega arith)
 lawful_at (t ∷ ts) k e h = rw add-one (follows_at t ts k (lawful_parts None t ts e).1 (omega arith))
-
--- the same of minutes as 64 bits hold them
-pub stored_follows : (ts : List ℤ) (k j : ℕ) → lawful ts ≡ true → k + 1 ≡ j → j < length ts → FitsSigned w64 (slice_index_or ts k (pos 0)) → FitsSigned w64 (slice_index_or ts j (pos 0)) → may_follow (to_z w64 (of_z w64 (slice_index_or ts k (pos 0)))) (to_z w64 (of_z w64 (slice_index_or ts j (pos 0)))) ≡ true
-stored_follows ts k j e is h f g = simp to_z-of_z (rw is at (lawful_at ts k e (omega arith)))

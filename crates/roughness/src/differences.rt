@@ -3,13 +3,14 @@ ghost use Rattle.std.specs.Prelude.{◌≡◌, ◌+◌, ◌<◌, ◌≤◌, leng
 ghost use Rattle.kinds.specs.Figures.{largest, over};
 ghost use Rattle.roughness.specs.Maps.{differences, differences_back};
 
+// Kept so: four loops ask that figures are at most 10^12; a type of such figures would be made and opened at each call.
 // Each value after the first, minus the one before it.
 pub(crate) fn write_differences(values: &[i64], rows: &mut [i64])
     requires { (largest values.now ≤ 1000000000000) × ((1 ≤ length values.now) × (length values.now ≤ length rows.old + 1)) }
     ensures { rows.new ≡ over (differences values.now) rows.old }
 {
-    for k in 0..values.len() - 1 {
-        rows[k] = values[k + 1] - values[k];
+    for (k, [value, next]) in values.array_windows::<2>().enumerate() {
+        rows[k] = *next - *value;
     }
 }
 
@@ -19,9 +20,9 @@ pub(crate) fn write_differences_back(multipliers: &[i64], columns: &mut [i64])
     ensures { columns.new ≡ over (differences_back multipliers.now) columns.old }
 {
     let mut before = 0;
-    for k in 0..multipliers.len() {
-        columns[k] = before - multipliers[k];
-        before = multipliers[k];
+    for (k, multiplier) in multipliers.iter().enumerate() {
+        columns[k] = before - *multiplier;
+        before = *multiplier;
     }
     columns[multipliers.len()] = before;
 }

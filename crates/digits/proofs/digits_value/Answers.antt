@@ -1,7 +1,7 @@
-use Rattle.std.proofs.Common.{◌≡◌, true, length, sym, refl, ap, ◌∙◌, subst, arith}
+use Rattle.std.proofs.Common.{◌≡◌, true, refl, arith}
 use Rattle.std.proofs.ByRecursion.{All-get_or}
-use Rattle.std.proofs.lemmas.List.{take_more, take_all}
-use Rattle.digits.specs.Fields.{is_digit, field, Fits}
+use Rattle.std.proofs.lemmas.List.{take_more}
+use Rattle.digits.specs.Fields.{is_digit, field}
 use Rattle.digits.proofs.Fields.{field_more, fits_more, fits_word}
 use Rattle.digits.proofs.digits_value.Goals as goal
 
@@ -25,14 +25,3 @@ loop-byte-preserved c = (
       let before = c.loop-byte.invariant.1 all in
       cc,
 )
-
-pub returns-after-loop-byte : goal.returns-after-loop-byte
-returns-after-loop-byte c = λ short all.
-    let bytes = c.args.bytes.now in
-    let whole : c.loop-byte.byte-index ≡ length bytes = omega arith in
-    let text = c.loop-byte.invariant.1 all ∙ take_all c.loop-byte.byte-index bytes (omega arith) in
-    record {
-      short = short;
-      fits = subst (λ n. Fits n c.loop-byte.figure) whole c.loop-byte.invariant.0;
-      written = ap (λ n. field n c.loop-byte.figure) (sym whole) ∙ text;
-    }

@@ -1,67 +1,105 @@
-use Rattle.std.proofs.Common.{◌≡◌, ◌+◌, length, get_or, pos, ◌∙◌, arith, w64, SFits, rules}
+use Rattle.std.proofs.Common.{◌≡◌, ◌+◌, ◌<◌, ◌≤◌, ℕ, ℤ, ◌+ℤ◌, ◌-ℤ◌, nat_abs, List, get_or, pos, ◌∙◌, ⊎_elim, drop, sym, ap, length, arith, w64, to_z}
 use Rattle.std.proofs.lemmas.Int.{to_z-of_z}
-use Rattle.kinds.proofs.Bits.{fits64, size_back64}
-use Rattle.kinds.proofs.Places.{written_none, written_more, size_at}
-use Rattle.roughness.specs.Steps.{stored_follows}
+use Rattle.std.proofs.lemmas.List.{length-drop}
+use Rattle.std.specs.Iterator.Adapters.{enumerate_count}
+use Rattle.kinds.specs.Figures.{largest}
+use Rattle.kinds.proofs.Bits.{fits64, back64}
+use Rattle.kinds.proofs.Places.{written_more, size_at}
+use Rattle.kinds.proofs.Ring.{size_add_most, size_sub_most}
+use Rattle.roughness.specs.Maps.{shares, bends_back_from}
 use Rattle.roughness.specs.Bending.{back_more, back_last}
+use Rattle.roughness.proofs.Products.{onto}
+use Rattle.roughness.proofs.Windows.{window_more, window_none, windows_begin, written_begin, figure_more, moments_follow, moments_step}
 use Rattle.roughness.proofs.bends.write_bends_back.Goals as goal
 
 pub loop-k-init : goal.loop-k-init
-loop-k-init c = (written_none _ _, omega arith, omega arith)
+loop-k-init c = record {
+  written = written_begin (λ k. bends_back_from (pos 0) (pos 0) (drop k c.args.minutes.now) (drop k c.args.multipliers.now)) _ (cc);
+  minutes = windows_begin (cc) (cc) (cc) (omega arith);
+  multipliers = (cc);
+  here_small = omega arith;
+  next_small = omega arith;
+}
 
-pub step_between-a-requires : goal.step_between-a-requires
-step_between-a-requires c = stored_follows c.args.minutes.now c.loop-k.k (c.loop-k.k + 1) c.requires.0 (omega arith) (omega arith) (search rules) (search rules)
+pub between-requires : goal.between-requires
+between-requires c =
+    let s = c.in-Some.ensures.steps in
+    moments_follow c.requires.0 (window_more c.loop-k.invariant.minutes c.in-Some.k c.in-Some.moments.now _ _ s.1 (omega arith) s.0.0.0 s.0.0.1.0 s.0.0.1.1 s.0.0.1.2)
 
-pub step_between-b-requires : goal.step_between-b-requires
-step_between-b-requires c = stored_follows c.args.minutes.now (c.loop-k.k + 1) (c.loop-k.k + 2) c.requires.0 (omega arith) (omega arith) (search rules) (search rules)
+pub shares-requires : goal.shares-requires
+shares-requires c =
+    let s = c.in-Some.ensures.steps in
+    let f = figure_more {i = c.in-Some.k} c.args.multipliers.now _ c.in-Some.multiplier.now _ c.loop-k.invariant.multipliers s.1 s.0.1 in
+    let small = size_at c.args.multipliers.now c.in-Some.k in
+    let size : nat_abs c.in-Some.multiplier.now ≤ 1000000000000 = omega (arith, ap nat_abs f.here) in
+    let fits = fits64 c.in-Some.multiplier.now (omega arith) in
+    rw to_z-of_z size
 
-pub plus-requires : goal.plus-requires
-plus-requires c =
-    let near = size_at c.args.multipliers.now c.loop-k.k in
-    let fb = fits64 c.step_between-b.result (omega arith) in
-    let fm = fits64 (get_or c.args.multipliers.now c.loop-k.k (pos 0)) (omega arith) in
-    simp to_z-of_z (c.loop-k.invariant.1, (omega arith, omega arith))
+-- a figure at hand and a multiplier's share in it
+share_at : (xs : List ℤ) (j : ℕ) → largest xs ≤ 120000000000000 → nat_abs (get_or xs j (pos 0)) ≤ 120000000000000
+share_at xs j small = omega (arith, size_at xs j)
 
-pub minus-here-requires : goal.minus-here-requires
-minus-here-requires c =
-    let near = size_at c.args.multipliers.now c.loop-k.k in
-    let fa = fits64 c.step_between-a.result (omega arith) in
-    let fb = fits64 c.step_between-b.result (omega arith) in
-    let fm = fits64 (get_or c.args.multipliers.now c.loop-k.k (pos 0)) (omega arith) in
-    simp to_z-of_z (c.loop-k.invariant.2, (omega arith, (omega arith, omega arith)))
+pub overflow_add-columns : goal.overflow_add-columns
+overflow_add-columns c =
+    let share = share_at c.shares.result 0 c.shares.ensures.small in
+    let size = size_add_most (to_z w64 c.loop-k.here-bits) (get_or c.shares.result 0 (pos 0)) c.loop-k.invariant.here_small share in
+    (onto ◌+ℤ◌ (to_z w64 c.loop-k.here-bits) (get_or c.shares.result 0 (pos 0)) (omega arith) (omega arith)).0
 
-pub times-next-requires : goal.times-next-requires
-times-next-requires c =
-    let near = size_at c.args.multipliers.now c.loop-k.k in
-    let fa = fits64 c.step_between-a.result (omega arith) in
-    let fm = fits64 (get_or c.args.multipliers.now c.loop-k.k (pos 0)) (omega arith) in
-    simp to_z-of_z (omega arith)
+pub overflow_sub-here : goal.overflow_sub-here
+overflow_sub-here c =
+    let share = share_at c.shares.result 1 c.shares.ensures.small in
+    let size = size_sub_most (to_z w64 c.loop-k.next-bits) (get_or c.shares.result 1 (pos 0)) c.loop-k.invariant.next_small share in
+    (onto ◌-ℤ◌ (to_z w64 c.loop-k.next-bits) (get_or c.shares.result 1 (pos 0)) (omega arith) (omega arith)).0
 
 pub loop-k-preserved : goal.loop-k-preserved
 loop-k-preserved c =
     let ts = c.args.minutes.now in
-    let k = c.loop-k.k in
-    let t₀ : SFits w64 (get_or ts k (pos 0)) = search rules in
-    let t₁ : SFits w64 (get_or ts (k + 1) (pos 0)) = search rules in
-    let t₂ : SFits w64 (get_or ts (k + 2) (pos 0)) = search rules in
-    let fm : SFits w64 (get_or c.args.multipliers.now k (pos 0)) = search rules in
-    let fa = fits64 c.step_between-a.result (omega arith) in
-    let fb = fits64 c.step_between-b.result (omega arith) in
-    let a = simp to_z-of_z at c.step_between-a.ensures.value in
-    let b = simp to_z-of_z at c.step_between-b.ensures.value in
-    let column = simp b at (simp to_z-of_z at c.plus.ensures) in
-    let here = simp (a, b) at (simp to_z-of_z at c.minus-here.ensures.value) in
-    let next = simp a at (simp to_z-of_z at c.times-next.ensures.value) in (
-      written_more k _ _ _ _ _ c.loop-k.columns c.loop-k.invariant.0 (omega arith)
-          (back_more ts c.args.multipliers.now k _ _ _ _ _ (omega arith) (omega arith)
-          (to_z-of_z w64 c.plus.result (record { sfits = c.plus.type_inv }) ∙ column)
-          (to_z-of_z w64 c.minus-here.result (record { sfits = c.minus-here.type_inv }) ∙ here)
-          (to_z-of_z w64 c.times-next.result (record { sfits = c.times-next.type_inv }) ∙ next)),
-      size_back64 c.minus-here.result c.minus-here.ensures.small (omega arith),
-      size_back64 c.times-next.result c.times-next.ensures.small (omega arith),
-    )
+    let ms = c.args.multipliers.now in
+    let k = c.in-Some.k in
+    let s = c.in-Some.ensures.steps in
+    let w = window_more c.loop-k.invariant.minutes k c.in-Some.moments.now _ _ s.1 (omega arith) s.0.0.0 s.0.0.1.0 s.0.0.1.1 s.0.0.1.2 in
+    let f = figure_more {i = k} ms _ c.in-Some.multiplier.now _ c.loop-k.invariant.multipliers s.1 s.0.1 in
+    let short = f.long in
+    let next : enumerate_count c.next.new.self ≡ k + 1 = omega arith in
+    let most = size_at ms k in
+    let size : nat_abs c.in-Some.multiplier.now ≤ 1000000000000 = omega (arith, ap nat_abs f.here) in
+    let fits = fits64 c.in-Some.multiplier.now (omega arith) in
+    let step = moments_step w in
+    let before = c.between.ensures.0 ∙ step.0 in
+    let after = c.between.ensures.1 ∙ step.1 in
+    let m = to_z-of_z w64 c.in-Some.multiplier.now fits ∙ f.here in
+    let value = c.shares.ensures.value ∙ (λ i. shares (before i) (after i) (m i)) in
+    let r₀ = get_or c.shares.result 0 (pos 0) in
+    let r₁ = get_or c.shares.result 1 (pos 0) in
+    let r₂ = get_or c.shares.result 2 (pos 0) in
+    let s₀ = share_at c.shares.result 0 c.shares.ensures.small in
+    let s₁ = share_at c.shares.result 1 c.shares.ensures.small in
+    let s₂ = share_at c.shares.result 2 c.shares.ensures.small in
+    let t₀ = size_add_most (to_z w64 c.loop-k.here-bits) r₀ c.loop-k.invariant.here_small s₀ in
+    let t₁ = size_sub_most (to_z w64 c.loop-k.next-bits) r₁ c.loop-k.invariant.next_small s₁ in
+    let column = (onto ◌+ℤ◌ (to_z w64 c.loop-k.here-bits) r₀ (omega arith) (omega arith)).1 in
+    let here = (onto ◌-ℤ◌ (to_z w64 c.loop-k.next-bits) r₁ (omega arith) (omega arith)).1 in
+    let last = back64 r₂ (omega arith) in
+    rw next (record {
+      written =
+          written_more k _ _ _ _ _ c.loop-k.columns (rw (sym s.1) at c.loop-k.invariant.written) (omega arith)
+          (back_more ts ms k _ _ _ _ _ (omega arith) (omega arith)
+          (column ∙ ap (λ (l : List ℤ). to_z w64 c.loop-k.here-bits +ℤ get_or l 0 (pos 0)) value)
+          (here ∙ ap (λ (l : List ℤ). to_z w64 c.loop-k.next-bits -ℤ get_or l 1 (pos 0)) value)
+          (last ∙ ap (λ (l : List ℤ). get_or l 2 (pos 0)) value));
+      minutes = w.next;
+      multipliers = f.next;
+      here_small = rw here t₁;
+      next_small = rw last s₂;
+    })
 
 pub returns : goal.returns
 returns c =
-    let end : length c.args.multipliers.now ≡ c.loop-k.k = omega arith in
-    back_last c.args.minutes.now c.args.multipliers.now c.loop-k.k _ _ _ _ c.loop-k.columns c.loop-k.invariant.0 (omega arith) end
+    let s = c.in-None.ensures.steps in
+    let k = enumerate_count c.loop-k.k-iterator in
+    let within = c.loop-k.invariant.minutes.within in
+    let left = length-drop k c.args.multipliers.now in
+    let short : length c.args.minutes.now < k + 3 =
+    ⊎_elim (λ e. window_none c.loop-k.invariant.minutes e.1.1.0) (λ e. let none = e.1.0 in let rest = ap length c.loop-k.invariant.multipliers in omega arith) s.0 in
+    let end : length c.args.multipliers.now ≡ k = omega arith in
+    back_last c.args.minutes.now c.args.multipliers.now k _ _ _ _ c.loop-k.columns c.loop-k.invariant.written (omega arith) end

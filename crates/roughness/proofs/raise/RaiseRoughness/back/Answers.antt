@@ -1,13 +1,7 @@
 use Rattle.std.proofs.Common.{length}
 use Rattle.roughness.specs.Maps.{raised}
-use Rattle.roughness.proofs.Calls.{back_checks, fills_refused}
 use Rattle.roughness.proofs.Layer.{back_passed, fits_below, lower_columns, handed_up}
 use Rattle.roughness.proofs.raise.RaiseRoughness.back.Goals as goal
-
-pub returns-in_err-check_back : goal.returns-in_err-check_back
-returns-in_err-check_back g c =
-    fills_refused (raised (g.R.Roughness.meaning c.args.self.now.below)) (back_checks c.args.minutes.now c.args.multipliers.now (length c.args.columns.now)) _
-    c.growth.ensures c.reach-reach.ensures c.in_err-check_back.ensures c.from_residual.ensures.1
 
 pub write_differences_back-requires : goal.write_differences_back-requires
 write_differences_back-requires g c =

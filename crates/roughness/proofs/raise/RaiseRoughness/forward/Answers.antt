@@ -1,16 +1,11 @@
 use Rattle.std.proofs.Common.{List, length, ℤ, ap, ◌∙◌, arith}
 use Rattle.kinds.specs.Figures.{over}
 use Rattle.roughness.specs.Maps.{differences, raised}
-use Rattle.roughness.proofs.Calls.{forward_checks, fills_refused, fills_done}
+use Rattle.roughness.proofs.Calls.{forward_checks, fills_done}
 use Rattle.roughness.proofs.Layer.{ForwardPassed, forward_passed, never_refused, below_forward, lower_rows}
 use Rattle.roughness.proofs.raise.RaiseRoughness.forward.Given as given
 use Rattle.roughness.proofs.raise.RaiseRoughness.forward.Goals as goal
 use Rattle.roughness.proofs.raise.RaiseRoughness.forward.Goals.{After-forward}
-
-pub returns-in_err-check_forward : goal.returns-in_err-check_forward
-returns-in_err-check_forward g c =
-    fills_refused (raised (g.R.Roughness.meaning c.args.self.now.below)) (forward_checks c.args.minutes.now c.args.values.now (length c.args.rows.now)) _
-    c.growth.ensures c.reach-reach.ensures c.in_err-check_forward.ensures c.from_residual.ensures.1
 
 -- the layer's own checks have passed
 ours : (g : given.Over) (c : After-forward g) → ForwardPassed (raised (g.R.Roughness.meaning c.args.self.now.below)) c.args.minutes.now c.args.values.now (length c.args.rows.now)
