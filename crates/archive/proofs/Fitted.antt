@@ -1,10 +1,8 @@
 -- Figures that fit their fields.
 --     signed_fits                     a multiplier that fits is a number of 32 bits
---     fit_stop, fit_more, fit_all     a loop that tests a list from its start
 --     all_from_fit, fit_from_all      the test of a list, and what holds of each of its elements
-use Rattle.std.proofs.Common.{◌≡◌, ℕ, ◌+◌, ◌<◌, ◌≤◌, Bool, true, false, ◌&&◌, List, [], ◌∷◌, length, get_or, drop, ℤ, pos, negsuc, sym, refl, ap, ◌∙◌, arith, w32, SFits}
+use Rattle.std.proofs.Common.{◌≡◌, Bool, true, List, [], ◌∷◌, ℤ, pos, negsuc, refl, arith, w32, SFits}
 use Rattle.std.specs.List.{AllByRecursion}
-use Rattle.std.proofs.lemmas.List.{at_drop_more, at_drop_all}
 use Rattle.std.proofs.lemmas.Bool.{and_parts, and_from}
 use Rattle.archive.specs.File.{multiplier_fits}
 use Rattle.archive.specs.Writing.{all_fit}
@@ -12,19 +10,6 @@ use Rattle.archive.specs.Writing.{all_fit}
 pub signed_fits : (z : ℤ) → multiplier_fits z ≡ true → SFits w32 z
 signed_fits (pos n) e = record { sfits = grind arith }
 signed_fits (negsuc n) e = record { sfits = grind arith }
-
-module _ {X : Type 0} (test : X → Bool) (xs : List X) (i : ℕ) (d : X) (found : Bool) (h : i < length xs) (inv : all_fit test (drop i xs) ≡ found) where
-  here : (test (get_or xs i d) && all_fit test (drop (i + 1) xs)) ≡ found
-  here = sym (at_drop_more (all_fit test) xs i d h) ∙ inv
-
-  pub fit_stop : test (get_or xs i d) ≡ false → false ≡ found
-  fit_stop e = sym (ap (λ (b : Bool). b && all_fit test (drop (i + 1) xs)) e) ∙ here
-
-  pub fit_more : test (get_or xs i d) ≡ true → all_fit test (drop (i + 1) xs) ≡ found
-  fit_more e = sym (ap (λ (b : Bool). b && all_fit test (drop (i + 1) xs)) e) ∙ here
-
-pub fit_all : {X : Type 0} (test : X → Bool) (xs : List X) (i : ℕ) (found : Bool) → length xs ≤ i → all_fit test (drop i xs) ≡ found → true ≡ found
-fit_all test xs i found h inv = sym (at_drop_all (all_fit test) xs i h) ∙ inv
 
 pub all_from_fit : {X : Type 0} (test : X → Bool) (xs : List X) → all_fit test xs ≡ true → AllByRecursion (λ x. test x ≡ true) xs
 all_from_fit test [] e = tt

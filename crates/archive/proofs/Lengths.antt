@@ -1,9 +1,10 @@
 -- How long a file is, and its pieces.
 --     file_pieces        a file as its head, its lists and its end
 --     file_long          how long a file is whose table has an entry for each reading
-use Rattle.std.proofs.Common.{◌≡◌, ℕ, suc, ◌*◌, List, [], ◌∷◌, ◌++◌, length, ℤ, sym, refl, ap, ◌∙◌, append_assoc, mul-zero, mul-suc, arith, length-append}
+use Rattle.std.proofs.Common.{◌≡◌, ℕ, suc, ◌*◌, List, [], ◌∷◌, ◌++◌, length, ℤ, sym, ap, ◌∙◌, mul-zero, mul-suc, arith, length-append}
 use Rattle.std.specs.List.{flat_map}
 use Rattle.std.proofs.lemmas.List.{append-nil}
+use Rattle.std.proofs.lemmas.List.Concat.{flat_map-append}
 use Rattle.kinds.specs.declared.reading.Reading.{Reading}
 use Rattle.digits.proofs.Fields.{field_length}
 use Rattle.archive.specs.declared.figures.Head.{Head}
@@ -34,17 +35,13 @@ list_long text width each k [] = sym (mul-zero width)
 list_long text width each k (x ∷ xs) =
     simp (length-append (line (text k x)), each, list_long text width each (suc k) xs, mul-suc) (omega arith)
 
-joined_append : (xs ys : List (List ℕ)) → flat_map line (xs ++ ys) ≡ flat_map line xs ++ flat_map line ys
-joined_append [] ys = refl
-joined_append (x ∷ xs) ys = ap (λ l. line x ++ l) (joined_append xs ys) ∙ sym (append_assoc (line x) (flat_map line xs) (flat_map line ys))
-
 pub file_pieces : (g : Figures) →
     line (head_text edition g.head)
     ++ (flat_map line (texts_from reading_text 0 g.readings)
     ++ (flat_map line (texts_from entry_text 0 g.entries)
     ++ (flat_map line (texts_from multiplier_text 0 g.multipliers)
     ++ line (end_text g.cost g.floor)))) ≡ file g
-file_pieces g = sym (simp (joined_append, append-nil))
+file_pieces g = sym (simp (flat_map-append line, append-nil))
 
 pub file_long : (g : Figures) → length g.entries ≡ length g.readings → length (file g) ≡ file_length (length g.readings) (length g.multipliers)
 file_long g e =

@@ -1,4 +1,5 @@
 pub mod Accepting
+pub mod Fields
 pub mod Fitted
 pub mod Lengths
 pub mod Listing

@@ -1,14 +1,11 @@
 -- Bytes put into a place, one piece behind the other.
---     puts_none, puts_byte, puts_part    no byte, one byte, and a part that is written anew
+--     puts_byte, puts_part    one byte, and a part that is written anew
 --     puts_same               the same bytes under another name
 --     puts_more               two pieces, the second where the first stops
 use Rattle.std.proofs.Common.{◌≡◌, ℕ, ◌+◌, ◌<◌, ◌≤◌, List, [], ◌∷◌, ◌++◌, length, take, drop, set, sym, ap, ◌∙◌, subst, append_assoc, add-one, arith, length-append, length-drop}
 use borrow.Rule.Slice.PartMut.{put_mid}
-use Rattle.std.proofs.lemmas.List.{set_split, take_at, drop_at, drop-drop, length-take-le, take-append-drop}
+use Rattle.std.proofs.lemmas.List.{set_split, take_at, drop_at, drop-drop, length-take-le}
 use Rattle.archive.specs.Writing.{Puts}
-
-pub puts_none : (a : List ℕ) (i : ℕ) → i ≤ length a → Puts a a i i []
-puts_none a i h = record { stops = omega arith; within = h; is = sym (take-append-drop i a) }
 
 pub puts_byte : (a : List ℕ) (i b : ℕ) → i < length a → Puts a (set a i b) i (i + 1) (b ∷ [])
 puts_byte a i b h = record { stops = omega arith; within = omega arith; is = rw add-one (set_split a i b h) }

@@ -1,5 +1,6 @@
 -- Writing a file: the checks of each call in their order, and what the call leaves.
 --     Puts              that bytes stand in a place from i up to j, and that all else there is as it was
+--     fields_text       the digits of several fields, one behind the other
 --     in_turn           checks in their order: the counts (18), the figures (6), the room (10); `None` if all pass
 --     head_width, reading_width, entry_width, multiplier_width, end_width      how long each frame is, its end byte counted
 --     most_frames       how many frames a list can have: the place of the last one fits its field
@@ -9,6 +10,7 @@
 --     head_no, reading_no, entry_no, multiplier_no, end_no, readings_no      the checks of each call; `frame_no` is what those
 --                       of a list share, and `readings_no` asks whether as many frames are written as there are readings
 --     Taken, Returned   what a call leaves that is taken, and one that is refused
+--     Passes            what a call hands on once its checks are made
 --     Steps             the answer of a call that writes a frame; Next says what its new stage is
 --     HeadStep, ReadingStep, EntryStep, MultiplierStep, EndStep           the answer of each call that writes a frame;
 --                       `FrameStep` is what those of a list share
@@ -21,11 +23,13 @@
 --     gathered          the figures that are handed over
 --     answered, filled  what a call answers after its checks, and what the place of a file then holds
 --     Writes            what the call that writes a file at once promises
-use Rattle.std.specs.Prelude.{◌≡◌, ℕ, ◌+◌, ◌*◌, ◌≤◌, Bool, true, cond, ◌&&◌, List, [], ◌∷◌, ◌++◌, length, take, drop, ℤ, Some, None, Ok, Err, Option, Result, MatchResult, ◌==◌, nat_le, nat_lt}
-use Rattle.std.specs.List.{flat_map}
+use Rattle.std.specs.Prelude.{◌≡◌, ℕ, ◌+◌, ◌*◌, ◌≤◌, Bool, true, cond, ◌&&◌, List, [], ◌++◌, length, take, drop, ℤ, Some, None, Ok, Err, Option, Result, MatchResult, ◌==◌, nat_le, nat_lt}
+use Rattle.std.specs.List.{flat_map, list_all}
 use Rattle.kinds.specs.declared.reading.Reading.{Reading}
 use Rattle.kinds.specs.declared.refusal.Cause.{Cause}
 use Rattle.kinds.specs.declared.refusal.Cause.TheVariants.{Value, Room, Frame}
+use Rattle.digits.specs.Fields.{field}
+use Rattle.archive.specs.declared.figures.Figures.{Figures as Lent}
 use Rattle.archive.specs.declared.figures.Head.{Head}
 use Rattle.archive.specs.declared.stages.Progress.{Progress}
 use Rattle.archive.specs.declared.stages.Opened.{Opened}
@@ -41,6 +45,10 @@ pub record Puts (before after : List ℕ) (i j : ℕ) (bytes : List ℕ) : Type 
   pub stops : j ≡ i + length bytes
   pub within : j ≤ length before
   pub is : after ≡ take i before ++ (bytes ++ drop j before)
+
+-- each with the number of its digits
+abbrev pub fields_text : List (ℕ × ℕ) → List ℕ
+fields_text fs = flat_map (λ f. field f.0 f.1) fs
 
 abbrev pub in_turn : Bool → Bool → Bool → Option Cause
 in_turn counted fitting roomy = cond counted (cond fitting (cond roomy None (Some Room)) (Some Value)) (Some Frame)
@@ -113,6 +121,10 @@ pub record Returned {S : Type 0} (checks : Option Cause) (s : S) (before after :
   pub same_stage : e.stage ≡ s
   pub same_place : after ≡ before
 
+-- what a call hands on once its checks are made: the stage as it is, where they passed
+abbrev pub Passes : {S : Type 0} → Option Cause → S → Result S (Refused S) → Type 0
+Passes checks s r = MatchResult r (λ t. (checks ≡ None) × (t ≡ s)) (Returned checks s [] [])
+
 abbrev pub Steps : {S T : Type 0} → Option Cause → ℕ → ℕ → List ℕ → (T → Type 0) → S → List ℕ → List ℕ → Result T (Refused S) → Type 0
 Steps checks i j bytes Next s before after r = MatchResult r (Taken checks i j bytes Next before after) (Returned checks s before after)
 
@@ -145,8 +157,7 @@ abbrev pub ListStep : {S T : Type 0} → Unfinished S → Result (Unfinished T) 
 ListStep s r = MatchResult r (λ t. (readings_no s.progress ≡ None) × (t.progress ≡ past_list s.progress)) (λ e. Returned (readings_no s.progress) s [] [] e)
 
 abbrev pub all_fit : {X : Type 0} → (X → Bool) → List X → Bool
-all_fit test [] = true
-all_fit test (x ∷ xs) = test x && all_fit test xs
+all_fit test xs = list_all test xs
 
 pub record Ready {X : Type 0} (test : X → Bool) (width : ℕ) (xs : List X) (p : Progress) (count room : ℕ) : Type 0 where
   pub fit : all_fit test xs ≡ true
@@ -167,8 +178,8 @@ abbrev pub write_no : Head → List Reading → List ℤ → List ℤ → ℕ �
 write_no h xs vs ms room =
     in_turn (length xs == h.readings && length vs == h.readings) (figures_fit h xs vs ms) (nat_le (file_length (length xs) (length ms)) room)
 
-abbrev pub gathered : Head → List Reading → List ℤ → List ℤ → ℕ → ℤ → Figures
-gathered h xs vs ms c b = record { head = h; readings = xs; entries = vs; multipliers = ms; cost = c; floor = b }
+abbrev pub gathered : Lent → Figures
+gathered f = record { head = f.head; readings = f.readings.now; entries = f.entries.now; multipliers = f.multipliers.now; cost = f.cost; floor = f.floor }
 
 abbrev pub answered : {X : Type 0} → Option Cause → X → Result X Cause
 answered None x = Ok x

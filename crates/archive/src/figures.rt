@@ -1,5 +1,15 @@
-// The figures of a file that stand in its head.
+// The figures of a file.
+ghost use Rattle.std.specs.Prelude.{◌≡◌};
+ghost use Rattle.archive.specs.File.{head_fits};
 
+use kinds::reading::Reading;
+
+// The least number that has more than 4 digits, and the least that has more than 6.
+const FOUR: u64 = 0x1_0000;
+
+const SIX: u64 = 0x100_0000;
+
+// The figures that stand in the head of a file.
 // Any figures can be handed over; the calls that write a head check that each fits its field.
 #[derive(Clone, Copy, PartialEq, Eq, Debug)]
 pub struct Head {
@@ -12,4 +22,28 @@ pub struct Head {
     pub stiffness: u64,
     pub denominator: u64,
     pub allowance: u64,
+}
+
+// All figures of a file, its lists lent. Any can be handed over here too.
+#[derive(Clone, Copy, PartialEq, Eq, Debug)]
+pub struct Figures<'a> {
+    pub head: Head,
+    pub readings: &'a [Reading],
+    pub entries: &'a [i64],
+    pub multipliers: &'a [i64],
+    pub cost: u64,
+    pub floor: i64,
+}
+
+impl Head {
+    pub(crate) fn fits(self) -> bool
+        ensures { result ≡ head_fits self }
+    {
+        self.roughness < FOUR
+            && self.misfit < SIX
+            && self.bend < SIX
+            && self.readings < FOUR
+            && self.stiffness < FOUR
+            && self.denominator < FOUR
+    }
 }

@@ -2,7 +2,6 @@
 #![tactic(auto)]
 
 pub mod cases;
-mod checks;
 pub mod figures;
 pub mod file;
 mod lists;

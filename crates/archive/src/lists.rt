@@ -1,83 +1,144 @@
-// Whole lists: whether their figures fit, and writing their frames when no call will be refused.
-ghost use Rattle.std.specs.Prelude.{◌≡◌, length};
-ghost use Rattle.archive.specs.File.{reading_text, entry_text, multiplier_text, reading_fits, entry_fits, multiplier_fits};
-ghost use Rattle.archive.specs.Writing.{all_fit, Ready, Lists, reading_width, entry_width, multiplier_width};
+// The stages at which a list is written: what the frames of each list are.
+ghost use Rattle.std.specs.Prelude.{◌≡◌, ℕ, Bool, true, List, length, refl};
+ghost use Rattle.archive.specs.declared.stages.Progress.{Progress};
+ghost use Rattle.archive.specs.File.{reading_text, entry_text, multiplier_text, line, reading_fits, entry_fits, multiplier_fits};
+ghost use Rattle.archive.specs.Writing.{moved_on, reading_width, entry_width, multiplier_width};
 
-use crate::checks::{entry_fits, multiplier_fits, reading_fits};
-use crate::stages::{AtEntries, AtMultipliers, AtReadings, Unfinished};
+use crate::put::put_line;
+use crate::stages::{AtEntries, AtMultipliers, AtReadings, Progress, Stage};
 use kinds::reading::Reading;
 
-pub(crate) fn readings_fit(readings: &[Reading]) -> bool
-    ensures { result ≡ all_fit reading_fits readings.now }
-{
-    for reading in readings {
-        if !reading_fits(*reading) {
-            return false;
-        }
-    }
-    true
+// A stage at which a list is written says what its frames are; the calls that write them are the same at each.
+pub(crate) trait ListStage: Stage + Copy {
+    // what a frame of the list tells
+    type Figure: Copy;
+
+    // the digits of the frame at a place
+    ghost text: { ℕ → Self.Figure → List ℕ };
+
+    // whether the figures of a frame fit their fields
+    ghost test: { Self.Figure → Bool };
+
+    // how many frames the list has
+    ghost count: { Progress → ℕ };
+
+    // how long a frame is, its end byte counted
+    ghost WIDTH: { ℕ };
+
+    const WIDTH: usize;
+
+    fn count(progress: Progress) -> usize
+        ensures { result ≡ count progress };
+
+    fn fits(figure: Self::Figure) -> bool
+        ensures { result ≡ test figure };
+
+    // Writes the frame that comes next over a part that is as long.
+    fn put(part: &mut [u8], progress: Progress, figure: Self::Figure)
+        requires fits { test figure ≡ true }
+        requires long { length part.old ≡ WIDTH }
+        ensures { part.new ≡ line (text progress.next figure) };
+
+    // frames that are written do not change the count
+    ghost counted: { (p : Progress) (i k : ℕ) → count (moved_on p i k) ≡ count p };
 }
 
-pub(crate) fn entries_fit(entries: &[i64]) -> bool
-    ensures { result ≡ all_fit entry_fits entries.now }
-{
-    for entry in entries {
-        if !entry_fits(*entry) {
-            return false;
-        }
+impl ListStage for AtReadings {
+    type Figure = Reading;
+
+    ghost text = { reading_text };
+
+    ghost test = { reading_fits };
+
+    ghost count = { λ p. p.readings };
+
+    ghost WIDTH = { reading_width };
+
+    const WIDTH: usize = 23;
+
+    ghost counted = { λ p i k. refl };
+
+    fn count(progress: Progress) -> usize {
+        progress.readings
     }
-    true
+
+    fn fits(reading: Reading) -> bool {
+        u32::try_from(reading.minute).is_ok()
+            && u16::try_from(reading.crude).is_ok()
+            && u16::try_from(reading.weight).is_ok()
+    }
+
+    fn put(part: &mut [u8], progress: Progress, reading: Reading) {
+        let minute = reading.minute.unsigned_abs();
+        let crude = reading.crude.unsigned_abs();
+        let weight = reading.weight.unsigned_abs();
+        put_line(
+            part,
+            &[
+                (2, 0x02),
+                (4, progress.next as u64),
+                (8, minute),
+                (4, crude),
+                (4, weight),
+            ],
+        );
+    }
 }
 
-pub(crate) fn multipliers_fit(multipliers: &[i64]) -> bool
-    ensures { result ≡ all_fit multiplier_fits multipliers.now }
-{
-    for multiplier in multipliers {
-        if !multiplier_fits(*multiplier) {
-            return false;
-        }
+impl ListStage for AtEntries {
+    type Figure = i64;
+
+    ghost text = { entry_text };
+
+    ghost test = { entry_fits };
+
+    ghost count = { λ p. p.readings };
+
+    ghost WIDTH = { entry_width };
+
+    const WIDTH: usize = 11;
+
+    ghost counted = { λ p i k. refl };
+
+    fn count(progress: Progress) -> usize {
+        progress.readings
     }
-    true
+
+    fn fits(value: i64) -> bool {
+        u16::try_from(value).is_ok()
+    }
+
+    fn put(part: &mut [u8], progress: Progress, value: i64) {
+        let figure = value.unsigned_abs();
+        put_line(part, &[(2, 0x03), (4, progress.next as u64), (4, figure)]);
+    }
 }
 
-pub(crate) fn write_readings(
-    mut stage: Unfinished<AtReadings>,
-    place: &mut [u8],
-    readings: &[Reading],
-) -> Unfinished<AtEntries>
-    requires { Ready reading_fits reading_width readings.now stage.progress stage.progress.readings (length place.old) }
-    ensures { Lists reading_text reading_width readings.now 0 stage.progress result.progress place.old place.new }
-{
-    for reading in readings {
-        stage = stage.reading(place, *reading).unwrap();
-    }
-    stage.begin_entries().unwrap()
-}
+impl ListStage for AtMultipliers {
+    type Figure = i64;
 
-pub(crate) fn write_entries(
-    mut stage: Unfinished<AtEntries>,
-    place: &mut [u8],
-    entries: &[i64],
-) -> Unfinished<AtMultipliers>
-    requires { Ready entry_fits entry_width entries.now stage.progress stage.progress.readings (length place.old) }
-    ensures { Lists entry_text entry_width entries.now 0 stage.progress result.progress place.old place.new }
-{
-    for entry in entries {
-        stage = stage.entry(place, *entry).unwrap();
-    }
-    stage.begin_multipliers().unwrap()
-}
+    ghost text = { multiplier_text };
 
-pub(crate) fn write_multipliers(
-    mut stage: Unfinished<AtMultipliers>,
-    place: &mut [u8],
-    multipliers: &[i64],
-) -> Unfinished<AtMultipliers>
-    requires { Ready multiplier_fits multiplier_width multipliers.now stage.progress stage.progress.multipliers (length place.old) }
-    ensures { Lists multiplier_text multiplier_width multipliers.now (length multipliers.now) stage.progress result.progress place.old place.new }
-{
-    for multiplier in multipliers {
-        stage = stage.multiplier(place, *multiplier).unwrap();
+    ghost test = { multiplier_fits };
+
+    ghost count = { λ p. p.multipliers };
+
+    ghost WIDTH = { multiplier_width };
+
+    const WIDTH: usize = 15;
+
+    ghost counted = { λ p i k. refl };
+
+    fn count(progress: Progress) -> usize {
+        progress.multipliers
     }
-    stage
+
+    fn fits(value: i64) -> bool {
+        i32::try_from(value).is_ok()
+    }
+
+    fn put(part: &mut [u8], progress: Progress, value: i64) {
+        let figure = (value as i32).cast_unsigned() as u64;
+        put_line(part, &[(2, 0x04), (4, progress.next as u64), (8, figure)]);
+    }
 }

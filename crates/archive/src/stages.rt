@@ -1,6 +1,6 @@
 // The stages through which a file is written, as types.
 ghost use Rattle.std.specs.Prelude.{◌≡◌, ◌+◌, ◌^◌, ◌<◌};
-ghost use Rattle.archive.specs.Writing.{opened, moved_on, past_list};
+ghost use Rattle.archive.specs.Writing.{opened, moved_on, past_list, in_turn, has_room, Passes, ListStep};
 
 use kinds::refusal::Cause;
 
@@ -13,14 +13,32 @@ pub struct Progress {
     pub(crate) next: usize,
 }
 
+impl Progress {
+    // Behind one more frame, which stops at `at`.
+    pub(crate) fn past_frame(self, at: usize) -> Progress
+        requires { self.next + 1 < 2 ^ 64 }
+        ensures { result ≡ moved_on self at (self.next + 1) }
+    {
+        let next = self.next + 1;
+        Progress { at, next, ..self }
+    }
+
+    // At the first frame of the next list.
+    fn past_list(self) -> Progress
+        ensures { result ≡ past_list self }
+    {
+        Progress { next: 0, ..self }
+    }
+}
+
 // Keeps other modules from making stages of their own.
 mod sealed {
     pub trait Sealed {}
 }
 
-// What a stage says of a file that is at it: whether the file may be let go.
+// What a stage says of a file that is at it: whether the file may be let go. Most stages say that it never may.
 pub trait Stage: sealed::Sealed {
-    ghost may_be_let_go: { Type 0 };
+    ghost may_be_let_go: { Type 0 } = { ⊥ };
 }
 
 // Nothing is written yet.
@@ -29,9 +47,7 @@ pub struct Opened;
 
 impl sealed::Sealed for Opened {}
 
-impl Stage for Opened {
-    ghost may_be_let_go = { ⊥ };
-}
+impl Stage for Opened {}
 
 // The head is written, and some of the readings.
 #[derive(Clone, Copy)]
@@ -39,27 +55,21 @@ pub struct AtReadings;
 
 impl sealed::Sealed for AtReadings {}
 
-impl Stage for AtReadings {
-    ghost may_be_let_go = { ⊥ };
-}
+impl Stage for AtReadings {}
 
 #[derive(Clone, Copy)]
 pub struct AtEntries;
 
 impl sealed::Sealed for AtEntries {}
 
-impl Stage for AtEntries {
-    ghost may_be_let_go = { ⊥ };
-}
+impl Stage for AtEntries {}
 
 #[derive(Clone, Copy)]
 pub struct AtMultipliers;
 
 impl sealed::Sealed for AtMultipliers {}
 
-impl Stage for AtMultipliers {
-    ghost may_be_let_go = { ⊥ };
-}
+impl Stage for AtMultipliers {}
 
 // The file is ended or scratched. No other module can lead a file here, or to any stage at which it may be let go.
 #[derive(Clone, Copy)]
@@ -131,64 +141,68 @@ impl<S: Drop + Stage> Unfinished<S> {
         ensures { result ≡ self.progress.at }
     {
         let progress = self.progress;
-        let _closed = self.led_on(progress, Closed);
+        let _closed = self.led_to(Closed);
         progress.at
     }
 
-    pub(crate) fn led_on<T: Stage>(self, progress: Progress, stage: T) -> Unfinished<T>
-        ensures { result.progress ≡ progress }
+    // The same file at another stage.
+    pub(crate) fn led_to<T: Stage>(self, stage: T) -> Unfinished<T>
+        ensures { result.progress ≡ self.progress }
     {
-        let Unfinished {
-            progress: _,
-            stage: _,
-        } = self;
+        let Unfinished { progress, stage: _ } = self;
         Unfinished { progress, stage }
     }
 
-    // Behind one more frame, which stops at `at`.
-    pub(crate) fn past_frame<T: Stage>(self, at: usize, stage: T) -> Unfinished<T>
-        requires { self.progress.next + 1 < 2 ^ 64 }
-        ensures { result.progress ≡ moved_on self.progress at (self.progress.next + 1) }
+    // The same file, come as far as is said.
+    pub(crate) fn with_progress(self, progress: Progress) -> Unfinished<S>
+        ensures { result.progress ≡ progress }
     {
-        let Progress {
-            readings,
-            multipliers,
-            next,
-            ..
-        } = self.progress;
-        let progress = Progress {
-            at,
-            readings,
-            multipliers,
-            next: next + 1,
-        };
-        self.led_on(progress, stage)
+        let Unfinished { progress: _, stage } = self;
+        Unfinished { progress, stage }
     }
 
-    // At the first frame of a list.
-    pub(crate) fn past_list<T: Stage>(self, stage: T) -> Unfinished<T>
-        ensures { result.progress ≡ past_list self.progress }
+    // The same file, if the counts, then the figures, then the room are right: `width` bytes have to fit in a place of
+    // `room` bytes, behind those that are written.
+    pub(crate) fn checked(
+        self,
+        counted: bool,
+        fitting: bool,
+        width: usize,
+        room: usize,
+    ) -> Result<Unfinished<S>, Refused<Unfinished<S>>>
+        ensures { Passes (in_turn counted fitting (has_room self.progress width room)) self result }
     {
-        let Progress {
-            at,
-            readings,
-            multipliers,
-            ..
-        } = self.progress;
-        let progress = Progress {
-            at,
-            readings,
-            multipliers,
-            next: 0,
+        let at = self.progress.at;
+        let cause = if !counted {
+            Cause::Frame
+        } else if !fitting {
+            Cause::Value
+        } else if room < at || room - at < width {
+            Cause::Room
+        } else {
+            return Ok(self);
         };
-        self.led_on(progress, stage)
+        Err(Refused { stage: self, cause })
+    }
+
+    // At the first frame of the next list, if as many frames are written as there are readings.
+    pub(crate) fn past_readings(self) -> Result<Unfinished<S>, Refused<Unfinished<S>>>
+        ensures { ListStep self result }
+    {
+        let progress = self.progress;
+        if progress.next != progress.readings {
+            return Err(Refused {
+                stage: self,
+                cause: Cause::Frame,
+            });
+        }
+        Ok(self.with_progress(progress.past_list()))
     }
 
     pub(crate) fn ended(self, bytes: usize) -> Ended
         ensures { result.bytes ≡ bytes }
     {
-        let progress = self.progress;
-        let _closed = self.led_on(progress, Closed);
+        let _closed = self.led_to(Closed);
         Ended { bytes }
     }
 }

@@ -1,12 +1,11 @@
 // The calls that write a file, frame by frame. Each takes its stage and is lent the file's place. It gives the next stage,
 // or hands its own back and leaves the place as it was.
-ghost use Rattle.archive.specs.Writing.{HeadStep, ReadingStep, EntryStep, MultiplierStep, EndStep, ListStep};
+ghost use Rattle.std.specs.Prelude.{length};
+ghost use Rattle.archive.specs.Writing.{HeadStep, FrameStep, ReadingStep, EntryStep, MultiplierStep, EndStep, ListStep, Ready, Lists};
 
-use crate::checks::{
-    check_end, check_entry, check_head, check_multiplier, check_reading, check_readings,
-};
 use crate::figures::Head;
-use crate::put::{put_end, put_entry, put_head, put_multiplier, put_reading};
+use crate::lists::ListStage;
+use crate::put::{END_WIDTH, HEAD_WIDTH, put_end, put_head};
 use crate::stages::{
     AtEntries, AtMultipliers, AtReadings, Ended, Opened, Progress, Refused, Unfinished,
 };
@@ -22,19 +21,52 @@ impl Unfinished<Opened> {
     ) -> Result<Unfinished<AtReadings>, Refused<Unfinished<Opened>>>
         ensures { HeadStep head multipliers self place.old place.new result }
     {
-        if let Err(cause) = check_head(self.progress, head, place.len()) {
-            return Err(Refused { stage: self, cause });
-        }
+        let file = self.checked(true, head.fits(), HEAD_WIDTH, place.len())?;
+        let at = file.progress.at;
+        let end = at + HEAD_WIDTH;
+        put_head(&mut place[at..end], head);
         let progress = Progress {
-            at: put_head(place, self.progress.at, head),
+            at: end,
             readings: head.readings as usize,
             multipliers,
             next: 0,
         };
-        Ok(self.led_on(progress, AtReadings))
+        Ok(file.with_progress(progress).led_to(AtReadings))
     }
 }
 
+impl<S: ListStage> Unfinished<S> {
+    // Writes one more frame of the stage's list.
+    fn frame(
+        self,
+        place: &mut [u8],
+        figure: S::Figure,
+    ) -> Result<Unfinished<S>, Refused<Unfinished<S>>>
+        ensures { FrameStep S.text S.test S.WIDTH (S.count self.progress) figure self place.old place.new result }
+    {
+        let progress = self.progress;
+        let counted = progress.next < S::count(progress);
+        let fitting = u16::try_from(progress.next).is_ok() && S::fits(figure);
+        let file = self.checked(counted, fitting, S::WIDTH, place.len())?;
+        let end = progress.at + S::WIDTH;
+        S::put(&mut place[progress.at..end], progress, figure);
+        Ok(file.with_progress(progress.past_frame(end)))
+    }
+
+    // Writes all frames of a list, when none of them will be refused.
+    pub(crate) fn frames(self, place: &mut [u8], figures: &[S::Figure]) -> Unfinished<S>
+        requires { Ready S.test S.WIDTH figures.now self.progress (S.count self.progress) (length place.old) }
+        ensures { Lists S.text S.WIDTH figures.now (length figures.now) self.progress result.progress place.old place.new }
+    {
+        let mut file = self;
+        for figure in figures {
+            file = file.frame(place, *figure).unwrap();
+        }
+        file
+    }
+}
+
+// Kept so: a method for each list, over the one above, so that a frame of another list does not compile.
 impl Unfinished<AtReadings> {
     pub fn reading(
         self,
@@ -43,22 +75,14 @@ impl Unfinished<AtReadings> {
     ) -> Result<Unfinished<AtReadings>, Refused<Unfinished<AtReadings>>>
         ensures { ReadingStep reading self place.old place.new result }
     {
-        if let Err(cause) = check_reading(self.progress, reading, place.len()) {
-            return Err(Refused { stage: self, cause });
-        }
-        let Progress { at, next, .. } = self.progress;
-        let end = put_reading(place, at, next, reading);
-        Ok(self.past_frame(end, AtReadings))
+        self.frame(place, reading)
     }
 
     // Leads on to the entries, once all readings are written.
     pub fn begin_entries(self) -> Result<Unfinished<AtEntries>, Refused<Unfinished<AtReadings>>>
         ensures { ListStep self result }
     {
-        if let Err(cause) = check_readings(self.progress) {
-            return Err(Refused { stage: self, cause });
-        }
-        Ok(self.past_list(AtEntries))
+        Ok(self.past_readings()?.led_to(AtEntries))
     }
 }
 
@@ -70,12 +94,7 @@ impl Unfinished<AtEntries> {
     ) -> Result<Unfinished<AtEntries>, Refused<Unfinished<AtEntries>>>
         ensures { EntryStep value self place.old place.new result }
     {
-        if let Err(cause) = check_entry(self.progress, value, place.len()) {
-            return Err(Refused { stage: self, cause });
-        }
-        let Progress { at, next, .. } = self.progress;
-        let end = put_entry(place, at, next, value);
-        Ok(self.past_frame(end, AtEntries))
+        self.frame(place, value)
     }
 
     // Leads on to the multipliers, once there are as many entries as readings.
@@ -84,10 +103,7 @@ impl Unfinished<AtEntries> {
     ) -> Result<Unfinished<AtMultipliers>, Refused<Unfinished<AtEntries>>>
         ensures { ListStep self result }
     {
-        if let Err(cause) = check_readings(self.progress) {
-            return Err(Refused { stage: self, cause });
-        }
-        Ok(self.past_list(AtMultipliers))
+        Ok(self.past_readings()?.led_to(AtMultipliers))
     }
 }
 
@@ -99,12 +115,7 @@ impl Unfinished<AtMultipliers> {
     ) -> Result<Unfinished<AtMultipliers>, Refused<Unfinished<AtMultipliers>>>
         ensures { MultiplierStep value self place.old place.new result }
     {
-        if let Err(cause) = check_multiplier(self.progress, value, place.len()) {
-            return Err(Refused { stage: self, cause });
-        }
-        let Progress { at, next, .. } = self.progress;
-        let end = put_multiplier(place, at, next, value);
-        Ok(self.past_frame(end, AtMultipliers))
+        self.frame(place, value)
     }
 
     // Writes the end of the file, once all multipliers are written.
@@ -116,10 +127,11 @@ impl Unfinished<AtMultipliers> {
     ) -> Result<Ended, Refused<Unfinished<AtMultipliers>>>
         ensures { EndStep cost floor self place.old place.new result }
     {
-        if let Err(cause) = check_end(self.progress, place.len()) {
-            return Err(Refused { stage: self, cause });
-        }
-        let bytes = put_end(place, self.progress.at, cost, floor);
-        Ok(self.ended(bytes))
+        let counted = self.progress.next == self.progress.multipliers;
+        let file = self.checked(counted, true, END_WIDTH, place.len())?;
+        let at = file.progress.at;
+        let end = at + END_WIDTH;
+        put_end(&mut place[at..end], cost, floor);
+        Ok(file.ended(end))
     }
 }

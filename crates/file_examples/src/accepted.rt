@@ -1,5 +1,5 @@
 // The file of a small firing: written, judged, and asked place by place.
-use archive::figures::Head;
+use archive::figures::{Figures, Head};
 use archive::file::write_file;
 use kinds::reading::Reading;
 use kinds::refusal::{Cause, Refusal};
@@ -40,6 +40,15 @@ const HEAD: Head = Head {
     allowance: 0,
 };
 
+const FIGURES: Figures<'static> = Figures {
+    head: HEAD,
+    readings: &FIRING,
+    entries: &[100, 105, 110],
+    multipliers: &[-1],
+    cost: 15,
+    floor: 30,
+};
+
 const PAST: Refusal = Refusal {
     cause: Cause::Place,
     place: 0,
@@ -61,8 +70,7 @@ fn second_order(file: &[u8]) -> Option<Fault> {
 #[test]
 fn it_is_written_and_accepted(rt: HostRuntime) -> Result<(), Fail> {
     let mut place = [7; 203];
-    let written = write_file(&mut place, HEAD, &FIRING, &[100, 105, 110], &[-1], 15, 30);
-    assert_eq!(rt; written, Ok(201));
+    assert_eq!(rt; write_file(&mut place, &FIGURES), Ok(201));
     assert_eq!(rt; place[200], 10);
     assert_eq!(rt; place[201], 7);
     let Ok(contents) = judge(&over(Raise { below: First }), &place[0..201]) else {
@@ -84,36 +92,17 @@ fn it_is_written_and_accepted(rt: HostRuntime) -> Result<(), Fail> {
 #[test]
 fn a_refused_file_leaves_the_place(rt: HostRuntime) {
     let mut place = [7; 201];
-    let short = write_file(
-        &mut place,
-        HEAD,
-        &FIRING[0..2],
-        &[100, 105, 110],
-        &[-1],
-        15,
-        30,
-    );
-    assert_eq!(rt; short, Err(Cause::Frame));
-    let large = write_file(
-        &mut place,
-        HEAD,
-        &FIRING,
-        &[100, 65_536, 110],
-        &[-1],
-        15,
-        30,
-    );
-    assert_eq!(rt; large, Err(Cause::Value));
-    let room = write_file(
-        &mut place[0..200],
-        HEAD,
-        &FIRING,
-        &[100, 105, 110],
-        &[-1],
-        15,
-        30,
-    );
-    assert_eq!(rt; room, Err(Cause::Room));
+    let short = Figures {
+        readings: &FIRING[0..2],
+        ..FIGURES
+    };
+    assert_eq!(rt; write_file(&mut place, &short), Err(Cause::Frame));
+    let large = Figures {
+        entries: &[100, 65_536, 110],
+        ..FIGURES
+    };
+    assert_eq!(rt; write_file(&mut place, &large), Err(Cause::Value));
+    assert_eq!(rt; write_file(&mut place[0..200], &FIGURES), Err(Cause::Room));
     assert_eq!(rt; place[0], 7);
     assert_eq!(rt; place[200], 7);
 }

@@ -1,0 +1,15 @@
+use Rattle.std.proofs.Common.{ap, ◌∙◌, length-append}
+use Rattle.std.proofs.lemmas.Int.{to_z-of_z}
+use Rattle.digits.proofs.Fields.{field_length}
+use Rattle.archive.specs.File.{line}
+use Rattle.archive.proofs.Fields.{entry_fields}
+use Rattle.archive.proofs.lists.AtEntriesListStage.put.Goals as goal
+
+pub put_line-requires : goal.put_line-requires
+put_line-requires c = simp (length-append, field_length) c.requires.long
+
+pub returns : goal.returns
+returns c =
+    let fits = c.ranges.value in
+    let value = simp to_z-of_z at c.unsigned_abs-figure.ensures.value in
+    c.put_line.ensures ∙ ap line (entry_fields c.args.progress.next c.unsigned_abs-figure.result c.args.value value)
