@@ -2,7 +2,7 @@
 --     blank         what stands past the last reading
 use Rattle.std.proofs.Common.{◌≡◌, ℕ, zero, suc, ◌+◌, ◌<◌, ◌≤◌, true, List, [], ◌∷◌, length, get_or, drop, ℤ, pos, nat_abs, Some, None, Option, sym, refl, ap, ◌∙◌, arith}
 use borrow.Author.Differences.{ints}
-use Rattle.std.proofs.lemmas.List.{at_drop_more, at_drop_all}
+use Rattle.std.proofs.lemmas.List.{at_drop_more}
 use Rattle.kinds.specs.declared.reading.Reading.{Reading}
 use Rattle.kinds.specs.declared.refusal.Refusal.{Refusal}
 use Rattle.kinds.specs.Checks.{or_else}
@@ -20,12 +20,6 @@ module _ (i : ℕ) (last : Option ℤ) (xs : List Reading) (all : Option Refusal
 
   pub noted_stop : (r : Refusal) → reading_no i i last (get_or xs i blank) ≡ Some r → all ≡ Some r
   noted_stop r e = sym here ∙ ap (λ (c : Option Refusal). or_else c (readings_no_from (i + 1) (Some (get_or xs i blank).minute) (drop (i + 1) xs))) e
-
-  pub noted_more : reading_no i i last (get_or xs i blank) ≡ None → readings_no_from (i + 1) (Some (get_or xs i blank).minute) (drop (i + 1) xs) ≡ all
-  noted_more e = sym (ap (λ (c : Option Refusal). or_else c (readings_no_from (i + 1) (Some (get_or xs i blank).minute) (drop (i + 1) xs))) e) ∙ here
-
-pub noted_all : (i : ℕ) (last : Option ℤ) (xs : List Reading) (all : Option Refusal) → length xs ≤ i → readings_no_from i last (drop i xs) ≡ all → all ≡ None
-noted_all i last xs all h inv = sym inv ∙ at_drop_all (readings_no_from i last) xs i h
 
 -- what readings that pass are at each place
 pub figures_at : (i : ℕ) (last : Option ℤ) (xs : List Reading) → readings_no_from i last xs ≡ None → (k : ℕ) → k < length xs → has_figures (get_or xs k blank) ≡ true

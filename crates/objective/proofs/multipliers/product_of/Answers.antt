@@ -4,13 +4,6 @@ use Rattle.kinds.proofs.Bits.{fits64}
 use Rattle.kinds.proofs.Ring.{size_mul_most}
 use Rattle.objective.proofs.multipliers.product_of.Goals as goal
 
-pub overflow_mul-result : goal.overflow_mul-result
-overflow_mul-result c =
-    let fc = c.ranges.column in
-    let fz = c.ranges.crude in
-    let most = size_mul_most c.args.column c.args.crude c.requires.small c.requires.crudes in
-    simp to_z-of_z (fits64 (c.args.column *ℤ c.args.crude) (omega (arith, most)))
-
 pub returns : goal.returns
 returns c =
     let fc = c.ranges.column in

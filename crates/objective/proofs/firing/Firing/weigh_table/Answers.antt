@@ -1,4 +1,4 @@
-use Rattle.std.proofs.Common.{◌≡◌, ◌+◌, ◌≤◌, List, length, take, ℤ, nat_abs, sym, ap, ◌∙◌, ap₂, subst, arith}
+use Rattle.std.proofs.Common.{◌≡◌, ◌+◌, ◌≤◌, List, length, take, ℤ, nat_abs, sym, ap, ◌∙◌, ap₂, subst}
 use Rattle.std.proofs.lemmas.Result.{err_from_is_err_and}
 use Rattle.kinds.specs.Figures.{largest}
 use Rattle.kinds.proofs.Passing.{passed, refused}
@@ -30,20 +30,10 @@ returns-in_err-check_table g c =
     let p = err_from_is_err_and c.from_residual.result c.from_residual.ensures.1 in
     rw (p.1, p.2) (table_refused (meaning g self.kinds.now) self.stiffness self.readings.now c.args.table.now c.args.rows.now _ (refused _ _ _ c.in_err-check_table.ensures))
 
-pub fill_rows-requires : goal.fill_rows-requires
-fill_rows-requires g c =
-    let offer = (fine g (goal.at.fill_rows-requires g c).In_ok-check_table).offer in
-    record { long = offer.long; small = values_most 0 c.args.table.now offer.values; room = offer.fits }
-
-pub slice_bounds-bend_cost-end : goal.slice_bounds-bend_cost-end
-slice_bounds-bend_cost-end g c =
-    let offer = (fine g (goal.at.slice_bounds-bend_cost-end g c).In_ok-check_table).offer in
-    omega (arith, offer.fits, c.rows-count.ensures, c.fill_rows.auto.rows)
-
-pub misfit_cost-requires : goal.misfit_cost-requires
-misfit_cost-requires g c =
-    let offer = (fine g (goal.at.misfit_cost-requires g c).In_ok-check_table).offer in
-    record { values = offer.values; long = offer.long }
+pub fill_rows-requires-clause-small : goal.fill_rows-requires-clause-small
+fill_rows-requires-clause-small g c =
+    let offer = (fine g (goal.at.fill_rows-requires-clause-small g c).In_ok-check_table).offer in
+    values_most 0 c.args.table.now offer.values
 
 pub bend_cost-requires : goal.bend_cost-requires
 bend_cost-requires g c =
