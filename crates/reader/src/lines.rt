@@ -14,8 +14,8 @@ fn is_known(byte: u8) -> bool
     is_digit(byte) || byte == b'\n'
 }
 
-// Whether all bytes are digits or end bytes. It goes over all of them, so that it takes many bytes at a time: `all`, which
-// stops at the first that is not, took nine times as long.
+// Whether all bytes are digits or end bytes. It goes over all of them, so that it takes many bytes at a time: `all`,
+// which stops at the first that is not, took nine times as long.
 fn all_known(bytes: &[u8]) -> bool
     ensures { result ≡ fold (λ known b. known && is_known b) true bytes.now }
 {

@@ -34,8 +34,8 @@ impl From<HeadFields<'_>> for Head {
     }
 }
 
-// Whether a head has the edition and the marks that are wanted and a number of readings that can be; how many multipliers
-// there are then.
+// Whether a head has the edition and the marks that are wanted and a number of readings that can be; how many
+// multipliers there are then.
 fn check_head(wanted: Option<Wanted>, edition: u64, head: Head, at: usize) -> Result<usize, Fault>
     ensures { HeadChecked wanted edition head at result }
 {
@@ -93,8 +93,7 @@ impl Machine {
 
     // One line more is taken, behind the head.
     fn advance(&mut self)
-        requires head { self.old.stage ≢ AtHead }
-        requires more { self.old.stage ≢ AtNothing }
+        requires { (self.old.stage ≢ AtHead) × (self.old.stage ≢ AtNothing) }
         ensures taken { self.new.taken ≡ self.old.taken + 1 }
         ensures stage { self.new.stage ≡ stage_at self.old.contents.head.readings self.old.contents.count (self.old.taken + 1) }
         ensures contents { self.new.contents ≡ self.old.contents }
@@ -125,7 +124,7 @@ impl Machine {
         Ok(())
     }
 
-    // Kept so: the next goes to another list and is read in another way; what they share is `check_place` and `advance`.
+    // Kept so: the next goes to another list and is read in another way; both share `check_place` and `advance`.
     fn keep_entry(
         &mut self,
         k: usize,
@@ -200,7 +199,7 @@ impl Machine {
     ) -> Result<(), Fault>
         ensures { Stepped wanted (frame_text frame.entry) at self.old self.new result }
     {
-        // Kept so: stage and frame decide together, and each pair hands over its own fields; closures would be no plainer.
+        // Kept so: stage and frame decide together, and each pair hands over its fields; closures are no plainer.
         match (self.stage, frame) {
             (Stage::Head, Frame::Head(fields)) => self.keep_head(wanted, fields, at),
             (
