@@ -41,13 +41,10 @@ impl Marks {
     pub(crate) fn in_head(file: &[u8]) -> Option<Marks>
         ensures { Stands file.now result }
     {
-        let roughness = number_at(file, ROUGHNESS)?;
-        let misfit = number_at(file, MISFIT)?;
-        let bend = number_at(file, BEND)?;
         Some(Marks {
-            roughness,
-            misfit,
-            bend,
+            roughness: number_at(file, ROUGHNESS)?,
+            misfit: number_at(file, MISFIT)?,
+            bend: number_at(file, BEND)?,
         })
     }
 

@@ -93,8 +93,7 @@ impl Machine {
 
     // One line more is taken, behind the head.
     fn advance(&mut self)
-        requires head { self.old.stage ≢ AtHead }
-        requires more { self.old.stage ≢ AtNothing }
+        requires { (self.old.stage ≢ AtHead) × (self.old.stage ≢ AtNothing) }
         ensures taken { self.new.taken ≡ self.old.taken + 1 }
         ensures stage { self.new.stage ≡ stage_at self.old.contents.head.readings self.old.contents.count (self.old.taken + 1) }
         ensures contents { self.new.contents ≡ self.old.contents }
