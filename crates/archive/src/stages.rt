@@ -36,9 +36,9 @@ mod sealed {
     pub trait Sealed {}
 }
 
-// What a stage says of a file that is at it: whether the file may be let go. Most stages say that it never may.
+// What a stage says of a file that is at it: whether the file may be let go.
 pub trait Stage: sealed::Sealed {
-    ghost may_be_let_go: { Type 0 } = { ⊥ };
+    ghost may_be_let_go: { Type 0 };
 }
 
 // Nothing is written yet.
@@ -47,7 +47,9 @@ pub struct Opened;
 
 impl sealed::Sealed for Opened {}
 
-impl Stage for Opened {}
+impl Stage for Opened {
+    ghost may_be_let_go = { ⊥ };
+}
 
 // The head is written, and some of the readings.
 #[derive(Clone, Copy)]
@@ -55,21 +57,27 @@ pub struct AtReadings;
 
 impl sealed::Sealed for AtReadings {}
 
-impl Stage for AtReadings {}
+impl Stage for AtReadings {
+    ghost may_be_let_go = { ⊥ };
+}
 
 #[derive(Clone, Copy)]
 pub struct AtEntries;
 
 impl sealed::Sealed for AtEntries {}
 
-impl Stage for AtEntries {}
+impl Stage for AtEntries {
+    ghost may_be_let_go = { ⊥ };
+}
 
 #[derive(Clone, Copy)]
 pub struct AtMultipliers;
 
 impl sealed::Sealed for AtMultipliers {}
 
-impl Stage for AtMultipliers {}
+impl Stage for AtMultipliers {
+    ghost may_be_let_go = { ⊥ };
+}
 
 // The file is ended or scratched. No other module can lead a file here, or to any stage at which it may be let go.
 #[derive(Clone, Copy)]
