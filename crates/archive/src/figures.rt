@@ -5,6 +5,7 @@ ghost use Rattle.archive.specs.File.{head_fits};
 use kinds::reading::Reading;
 
 // The least number that has more than 4 digits, and the least that has more than 6.
+// Kept so: no type has 6 digits, so that `try_from` would serve only half of a head's figures.
 const FOUR: u64 = 0x1_0000;
 
 const SIX: u64 = 0x100_0000;

@@ -6,6 +6,7 @@ use crate::marks::{Marks, judge_marks};
 use reader::contents::Contents;
 use reader::fault::Fault;
 
+// Kept so: no `From`, since neither a number nor a `Result` is this crate's; C wants one number.
 // The answer in one number: 0, or the bytes of a fault: its layer, its number and the two of its line.
 fn pack(answer: &Result<Contents, Fault>) -> u32
     ensures { result ≡ packed answer.now }

@@ -49,6 +49,7 @@ const FIGURES: Figures<'static> = Figures {
     floor: 30,
 };
 
+// Kept so: a constant's value cannot call `into`.
 const PAST: Refusal = Refusal {
     cause: Cause::Place,
     place: 0,

@@ -9,6 +9,7 @@ pub(crate) fn write_differences(values: &[i64], rows: &mut [i64])
     requires { (largest values.now ≤ 1000000000000) × ((1 ≤ length values.now) × (length values.now ≤ length rows.old + 1)) }
     ensures { rows.new ≡ over (differences values.now) rows.old }
 {
+    // Kept so: a zip with `rows.iter_mut()` was tried, and after such a loop nothing is known of what it wrote.
     for (k, [value, next]) in values.array_windows::<2>().enumerate() {
         rows[k] = *next - *value;
     }

@@ -38,6 +38,7 @@ impl Lines {
 }
 
 // A refusal of kinds or figures as a fault, with its place counted from a line. The kinds stand in no line.
+// Kept so: no `From`, which has no room for the line.
 pub(crate) fn fault_from(line: usize, refusal: Refusal) -> Fault
     ensures { result ≡ fault Layer.Figures refusal.cause (line + refusal.place) }
 {

@@ -30,6 +30,7 @@ impl Session {
     }
 
     // Carries one line out; a blank one has no answer. Rows and columns are written into `place`.
+    // Kept so: that a blank line has no answer is no error, so it stands outside of the `Result`.
     pub(crate) fn answer<'a>(
         &mut self,
         line: &[u8],

@@ -38,6 +38,7 @@ pub enum Line {
         count: usize,
     },
     // anything else
+    // Kept so: a line that says nothing known is one of the lines that there are, and reading it cannot fail.
     Unknown,
 }
 
