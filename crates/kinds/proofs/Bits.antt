@@ -22,6 +22,3 @@ from_bits F z f h = subst F (to_z-of_z w64 z f) h
 
 pub to_bits : (F : ℤ → Type 0) (z : ℤ) → SFits w64 z → F z → F (to_z w64 (of_z w64 z))
 to_bits F z f h = subst F (sym (to_z-of_z w64 z f)) h
-
-pub cleaned : (F : ℤ → ℤ → Type 0) (y z : ℤ) → SFits w64 y → SFits w64 z → F (to_z w64 (of_z w64 y)) (to_z w64 (of_z w64 z)) → F y z
-cleaned F y z f g h = from_bits (λ (x : ℤ). F x z) y f (from_bits (F (to_z w64 (of_z w64 y))) z g h)

@@ -3,6 +3,7 @@ ghost use Rattle.std.specs.Prelude.{◌≡◌, min};
 ghost use Rattle.kinds.specs.Penalty.{PenaltyMeaning, PenaltyLaws, cost_answer, allows_answer, touch_answer};
 
 // A kind of penalty: what a residual costs, and which slopes stay below that cost.
+// Kept so: any weight and denominator can be asked of, so they are figures and no type with a range.
 pub trait Penalty {
     ghost meaning: { Self → PenaltyMeaning };
 

@@ -7,6 +7,7 @@ use crate::minutes::{largest_size, lawful_minutes};
 use crate::refusal::{Cause, Refusal};
 
 // A kind of roughness: a map from values to rows that says how rough a table is, and its transpose.
+// Kept so: minutes, input and the list to fill are slices of the caller's own; a struct of them would be made for a call.
 pub trait Roughness {
     ghost meaning: { Self → RoughnessMeaning };
 

@@ -23,6 +23,7 @@ pub fn weigh_table<R: Roughness, M: Penalty, B: Penalty>(
 
 // The floor of multipliers over a denominator, with their columns written at the start of `columns`. No table, of
 // whatever whole numbers, costs less than the floor divided by the denominator.
+// Kept so: what is offered is lent before any check, and a struct of it would be made for this call alone.
 pub fn weigh_multipliers<R: Roughness, M: Penalty, B: Penalty>(
     kinds: &Kinds<R, M, B>,
     stiffness: i64,

@@ -79,9 +79,6 @@ good_from l h = record {
   digits = All-from_get_or IsDigit l 0 (λ i lt. ⊎_elim (λ on. on) (λ off. absurd (h (λ g. both_ways _ off (All-get_or IsDigit l i 0 lt g.digits)))) (cases_Bool (is_digit (get_or l i 0))));
 }
 
-abbrev IsKnown : ℕ → Type 0
-IsKnown b = is_known b ≡ true
-
 -- a fold that asks of each byte whether it is known
 pub fold_known : (bs : List ℕ) (known : Bool) → fold (λ k b. k && is_known b) known bs ≡ true → (known ≡ true) × Known bs
 fold_known [] known on = (on, tt)
@@ -160,9 +157,6 @@ pub record Upto (bs r : List ℕ) (t : ℕ) : Type 0 where
   pub left : drop t (pieces bs) ≡ pieces r
   pub room : t + length r ≤ length bs
   pub good : (j : ℕ) → j < t → Good (get_or (pieces bs) j [])
-
-pub upto_none : (bs : List ℕ) → Upto bs bs 0
-upto_none bs = record { left = refl; room = omega arith; good = λ j h. absurd (omega arith) }
 
 module _ (bs r l r' : List ℕ) (t : ℕ) (u : Upto bs r t) (e : r ≡ l ++ (10 ∷ r')) (g : Good l) where
   upto_pieces : drop t (pieces bs) ≡ l ∷ pieces r'
