@@ -1,8 +1,9 @@
 #!/usr/bin/env python3
 """Lists places in crates/*/src that may be written plainer, by the points of docs/DESIGN-PASS.md.
 
-usage: python3 tools/places.py [POINT..]     at the top: the places of each point (1 to 7), and how many there are
+usage: python3 tools/places.py [POINT..]     at the top: the places of each point (1 to 8), and how many there are
        python3 tools/places.py --counts      only the counts
+       python3 tools/places.py --calls 2     twins, where the names of what is called count as well
 
 What it lists is what a reader then looks at: a place can be right as it is. Point 2 compares the functions' bodies with
 all names, numbers and texts taken for one another; point 5 does so with single clauses, and with pairs of parameters.
@@ -52,11 +53,13 @@ TOKEN = re.compile(r"b?\"[^\"]*\"|b?'[^']*'|[A-Za-z_]\w*|\d[\w]*|[^\s\w]")
 KEYWORDS = {"fn", "pub", "let", "mut", "if", "else", "match", "for", "in", "while", "loop", "return", "self", "Self", "impl", "struct", "enum", "as"}
 
 
-def shape(text):
-    """The tokens, with all names, numbers and texts as one."""
+def shape(text, calls=False):
+    """The tokens, with all names, numbers and texts as one, but for the names of calls where these are to count."""
     out = []
-    for token in TOKEN.findall(re.sub(r"//.*", "", text)):
-        if token in KEYWORDS or not re.match(r"[\w\"']|b['\"]", token):
+    text = re.sub(r"//.*", "", text)
+    called = set(re.findall(r"(\w+)(?:::<[^>]*>)?\(", text)) if calls else set()
+    for token in TOKEN.findall(text):
+        if token in KEYWORDS or token in called or not re.match(r"[\w\"']|b['\"]", token):
             out.append(token)
         else:
             out.append("x")
@@ -99,13 +102,13 @@ def by_lines(point):
                     yield what, f"{path}:{k + 1}: {line.strip()}"
 
 
-def twins():
+def twins(calls=False):
     groups = collections.defaultdict(list)
     for path, line, name, head, clauses, body in functions():
         if crate(path).endswith("_examples"):
             continue
         if len(TOKEN.findall(body)) >= 8:
-            groups[shape(body)].append(f"{path}:{line}: fn {name}")
+            groups[shape(body, calls)].append(f"{path}:{line}: fn {name}")
     for places in groups.values():
         if len(places) > 1:
             for place in places:
@@ -168,7 +171,7 @@ def proofs():
 
 def places(point):
     if point == "2":
-        return list(twins())
+        return list(twins("--calls" in sys.argv))
     if point == "5":
         return list(repeated())
     if point == "8":
@@ -178,7 +181,7 @@ def places(point):
 
 def main():
     only = "--counts" in sys.argv
-    points = [a for a in sys.argv[1:] if a != "--counts"] or list("12345678")
+    points = [a for a in sys.argv[1:] if not a.startswith("--")] or list("12345678")
     for point in points:
         found = places(point)
         kinds = collections.Counter(what for what, _ in found)
