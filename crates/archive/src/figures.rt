@@ -5,7 +5,7 @@ ghost use Rattle.archive.specs.File.{head_fits};
 use kinds::reading::Reading;
 
 // The least number that has more than 4 digits, and the least that has more than 6.
-// Kept so: no type has 6 digits, so that `try_from` would serve only half of a head's figures.
+// Kept so: no type has 6 digits, and one test for all six figures is plainer than `try_from` for four of them.
 const FOUR: u64 = 0x1_0000;
 
 const SIX: u64 = 0x100_0000;

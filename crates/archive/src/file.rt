@@ -37,6 +37,7 @@ impl Figures<'_> {
     }
 
     // All checks of a file: none of the calls that then write it is refused.
+    // Kept so: the order is that of `checked`, but the length is known only once the figures are found to fit.
     fn check(&self, room: usize) -> Result<(), Cause>
         ensures { result ≡ answered (writing_no (gathered self.now) room) tt }
     {

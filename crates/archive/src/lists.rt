@@ -9,6 +9,7 @@ use crate::stages::{AtEntries, AtMultipliers, AtReadings, Progress, Stage};
 use kinds::reading::Reading;
 
 // A stage at which a list is written says what its frames are; the calls that write them are the same at each.
+// Kept so: the impls are alike, but each names its own list, its own test and the fields of its own frames.
 pub(crate) trait ListStage: Stage + Copy {
     // what a frame of the list tells
     type Figure: Copy;

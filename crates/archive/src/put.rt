@@ -18,6 +18,7 @@ pub(crate) fn put_line(part: &mut [u8], fields: &[(usize, u64)])
     requires { length part.old ≡ length (line (fields_text fields.now)) }
     ensures { part.new ≡ line (fields_text fields.now) }
 {
+    // Kept so: `at` is a sum of widths and no count, and the check does not cover a slice that is lent on in a loop.
     let mut at = 0;
     for (width, figure) in fields {
         let end = at + *width;

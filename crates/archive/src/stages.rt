@@ -171,6 +171,7 @@ impl<S: Drop + Stage> Unfinished<S> {
 
     // The same file, if the counts, then the figures, then the room are right: `width` bytes have to fit in a place of
     // `room` bytes, behind those that are written.
+    // Kept so: two tests that the calls make and no values, and their order is said here once for all of them.
     pub(crate) fn checked(
         self,
         counted: bool,

@@ -12,7 +12,7 @@ pub struct Bounded<T, const N: usize> {
     ghost within: { count ≤ N },
 }
 
-// Kept so: no `Clone` is derived for a struct with a ghost field whose item is a parameter.
+// Kept so: the derives were tried, and are refused for a struct with a ghost field and a type parameter.
 impl<T: Copy, const N: usize> Clone for Bounded<T, N> {
     ghost is_clone = { λ list copy. copy ≡ list };
 

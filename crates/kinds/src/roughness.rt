@@ -34,6 +34,7 @@ pub trait Roughness {
 }
 
 // The checks that a kind makes before its forward map, from the growth and reach that it tells and the length of the place.
+// Kept so: these two say which length is the input's, and hand on; a struct of what they take would be made for one call.
 pub fn check_forward(
     growth: u64,
     reach: usize,

@@ -19,7 +19,7 @@ fn check_head(head: &Head) -> Result<(), Refusal>
     ensures { result ≡ answer (head_no head.now) tt }
 {
     check_settings(head.stiffness.cast_signed(), head.allowance.cast_signed())?;
-    // Kept so: no public call checks a denominator alone, and one made for this would be no plainer.
+    // Kept so: a public check of a denominator alone would be a call of `objective` more, for this one test.
     if !(1..=1000).contains(&head.denominator) {
         return Err(Cause::Denominator.into());
     }
