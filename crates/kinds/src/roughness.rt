@@ -7,7 +7,7 @@ use crate::minutes::{largest_size, lawful_minutes};
 use crate::refusal::{Cause, Refusal};
 
 // A kind of roughness: a map from values to rows that says how rough a table is, and its transpose.
-// Kept so: minutes, input and the list to fill are slices of the caller's own; a struct of them would be made for a call.
+// Kept so: minutes, input and the list to fill are the caller's own slices; a struct of them would be made for a call.
 pub trait Roughness {
     ghost meaning: { Self → RoughnessMeaning };
 
@@ -34,7 +34,7 @@ pub trait Roughness {
 }
 
 // The checks that a kind makes before its forward map, from the growth and reach that it tells and the length of the place.
-// Kept so: these two say which length is the input's, and hand on; a struct of what they take would be made for one call.
+// Kept so: these two say which length is the input's, and hand on; a struct for that would be made for one call.
 pub fn check_forward(
     growth: u64,
     reach: usize,
