@@ -16,6 +16,7 @@ pub fn may_come(last: Option<i64>, minute: i64) -> bool
 pub fn lawful_minutes(minutes: &[i64]) -> bool
     ensures { result ≡ lawful minutes.now }
 {
+    // Kept so: each minute is judged by the one before it, which a closure would carry along in the same way.
     let mut last = None;
     for minute in minutes {
         if !may_come(last, *minute) {
@@ -30,6 +31,7 @@ pub fn lawful_minutes(minutes: &[i64]) -> bool
 pub fn largest_size(figures: &[i64]) -> u64
     ensures { result ≡ largest figures.now }
 {
+    // Kept so: a `fold` was tried, and takes an answer where this loop takes none.
     let mut most = 0;
     for figure in figures {
         most = figure.unsigned_abs().max(most);

@@ -45,6 +45,7 @@ pub enum Cause {
 }
 
 // A cause and the place that it names, 0 where it names none.
+// Kept so: text says a place with every cause, and the definitions say which causes name none.
 #[derive(Clone, Copy, PartialEq, Eq, Debug)]
 pub struct Refusal {
     pub cause: Cause,

@@ -42,6 +42,7 @@ macro_rules! for_each_known {
 
 impl KnownRoughness {
     // First raised so many times, none above 3.
+    // Kept so: this and `slope` differ in their kind alone, but each number of raisings is a type and a case of its own.
     pub fn first(raised: u8) -> Option<KnownRoughness>
         ensures { Raises first 3 raised result }
     {

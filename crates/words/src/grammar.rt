@@ -38,7 +38,7 @@ pub enum Line {
         count: usize,
     },
     // anything else
-    // Kept so: a line that says nothing known is one of the lines that there are, and reading it cannot fail.
+    // Kept so: a blank line and one that says nothing known are lines like others, and reading cannot fail.
     Unknown,
 }
 
@@ -73,6 +73,7 @@ fn closed(mut words: Words, line: Line) -> Option<Line>
     words.next().is_none().then_some(line)
 }
 
+// Kept so: the three readers that follow are alike, but each reads other words into another case.
 fn read_kinds(mut words: Words) -> Option<Line>
     ensures { result ≡ kinds_of (words_left words.entry) }
 {
