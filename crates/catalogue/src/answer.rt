@@ -68,7 +68,8 @@ impl AnswerLine {
 
     // The bytes of the line, its end byte last.
     pub fn text(&self) -> &[u8]
-        ensures { result.now ≡ self.now }
+        ensures text { result.now ≡ self.now }
+        ensures within { length result.now ≤ 43 }
     {
         &self.bytes[0..self.count]
     }

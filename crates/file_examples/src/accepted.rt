@@ -135,10 +135,12 @@ fn too_steep_comes_first(rt: HostRuntime) {
     };
     assert_eq!(rt; judge(&over(ten), b"").err(), Some(steep));
     assert_eq!(rt; judge(&over(ten), b"no file").err(), Some(steep));
+    assert_eq!(rt; (u8::from(steep.layer), u8::from(steep.cause)), (3, 12));
     let empty = Fault {
         layer: Layer::Lines,
         cause: Cause::Line,
         line: 1,
     };
     assert_eq!(rt; second_order(b""), Some(empty));
+    assert_eq!(rt; (u8::from(empty.layer), u8::from(empty.cause)), (1, 17));
 }

@@ -35,6 +35,7 @@ pub struct Wanted {
 impl Contents {
     ghost use Rattle.reader.specs.Readable.{figures_of};
 
+    // Kept so: these are one line each, over three lists; the names are public.
     pub fn readings(&self) -> &[Reading]
         ensures { result.now ≡ (figures_of self.now).readings }
     {

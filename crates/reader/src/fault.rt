@@ -40,7 +40,14 @@ impl Fault {
     pub fn new(layer: Layer, cause: Cause, line: usize) -> Fault
         ensures { result ≡ fault layer cause line }
     {
-        let line = if line < 65_535 { line as u16 } else { 65_535 };
+        let line = u16::try_from(line).unwrap_or(u16::MAX);
         Fault { layer, cause, line }
+    }
+
+    // A line that is no frame, or not the one that has to come.
+    pub(crate) fn disorder(line: usize) -> Fault
+        ensures { result ≡ fault Layer.Frames Cause.Frame line }
+    {
+        Fault::new(Layer::Frames, Cause::Frame, line)
     }
 }

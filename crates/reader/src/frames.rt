@@ -1,12 +1,13 @@
 // The second layer: the frames, with their fields as parts of the file.
 ghost use Rattle.std.specs.Prelude.{◌≡◌, MatchResult};
+ghost use Rattle.kinds.specs.declared.refusal.Cause.{Cause};
 ghost use Rattle.reader.specs.Faults.{fault};
+ghost use Rattle.reader.specs.declared.fault.Layer.{Layer};
 ghost use Rattle.reader.specs.Lines.{Good};
 ghost use Rattle.reader.specs.Shapes.{frame_text, NoFrame};
 
-use crate::fault::{Fault, Layer};
+use crate::fault::Fault;
 use crate::values::{Digits, Rest};
-use kinds::refusal::Cause;
 
 // The fields of a head, each a part of its line.
 #[derive(Clone, Copy)]
@@ -51,7 +52,7 @@ pub(crate) fn read_frame<'a>(line: &'a [u8], at: usize) -> Result<Frame<'a>, Fau
     ensures { MatchResult result (λ f. line.now ≡ frame_text f) (λ e. (e ≡ fault Layer.Frames Cause.Frame at) × NoFrame line.now) }
 {
     let [a, b, rest @ ..] = line else {
-        return Err(Fault::new(Layer::Frames, Cause::Frame, at));
+        return Err(Fault::disorder(at));
     };
     let size = rest.len();
     let mut rest = Rest { bytes: rest };
@@ -84,6 +85,6 @@ pub(crate) fn read_frame<'a>(line: &'a [u8], at: usize) -> Result<Frame<'a>, Fau
             cost: rest.field(),
             floor: rest.field(),
         }),
-        _ => Err(Fault::new(Layer::Frames, Cause::Frame, at)),
+        _ => Err(Fault::disorder(at)),
     }
 }

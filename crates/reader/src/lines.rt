@@ -1,5 +1,5 @@
 // The first layer: the lines of a file.
-ghost use Rattle.std.specs.Prelude.{◌≡◌, ℕ, ◌+◌, ◌^◌, ◌<◌, ◌≤◌, ◌&&◌, true, false, length, take, fold, MatchResult, ◌≢◌, slice_index};
+ghost use Rattle.std.specs.Prelude.{◌≡◌, ℕ, ◌+◌, ◌^◌, ◌<◌, ◌≤◌, true, false, length, take, MatchResult, ◌≢◌, slice_index};
 ghost use Rattle.std.proofs.Props.{props};
 ghost use Rattle.digits.specs.Fields.{is_digit, Digits};
 ghost use Rattle.reader.specs.Lines.{Whole, FirstBroken, is_known, Known};
@@ -17,7 +17,7 @@ fn is_known(byte: u8) -> bool
 // Whether all bytes are digits or end bytes. It goes over all of them, so that it takes many bytes at a time: `all`,
 // which stops at the first that is not, took nine times as long.
 fn all_known(bytes: &[u8]) -> bool
-    ensures { result ≡ fold (λ known b. known && is_known b) true bytes.now }
+    ensures { result ≡ true → Known bytes.now }
 {
     bytes
         .iter()
@@ -66,6 +66,7 @@ impl<'a> Lines<'a> {
     ghost use Rattle.reader.specs.Turns.{Next};
 
     // The lines of a file, `known` where all its bytes are digits or end bytes.
+    // Kept so: who calls knows already whether all bytes are known, so that they are not looked at twice.
     pub(crate) fn new(file: &'a [u8], known: bool) -> Lines<'a>
         requires { known ≡ true → Known file.now }
         ensures rest { result.rest.now ≡ file.now }

@@ -62,7 +62,7 @@ fn check_place(place: Digits<'_, 4>, k: usize, at: usize) -> Result<(), Fault>
     ensures { MatchResult result (λ _. Number place.entry.bytes.now k) (λ f. (f ≡ fault Layer.Frames Cause.Frame at) × (Number place.entry.bytes.now k → ⊥)) }
 {
     if place.figure() != k as u64 {
-        return Err(Fault::new(Layer::Frames, Cause::Frame, at));
+        return Err(Fault::disorder(at));
     }
     Ok(())
 }
@@ -102,6 +102,7 @@ impl Machine {
         self.stage = awaited(&self.contents, self.taken);
     }
 
+    // Kept so: `at`, as `wanted` below, goes along with each frame, since a fault is handed up by `?` from where it is found.
     fn keep_reading(
         &mut self,
         k: usize,
@@ -218,7 +219,7 @@ impl Machine {
                 self.keep_multiplier(k, place, value, at)
             }
             (Stage::End, Frame::End { cost, floor }) => self.keep_end(cost, floor, at),
-            _ => Err(Fault::new(Layer::Frames, Cause::Frame, at)),
+            _ => Err(Fault::disorder(at)),
         }
     }
 }

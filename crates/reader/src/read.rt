@@ -4,12 +4,11 @@ ghost use Rattle.reader.specs.Order.{FramesRead};
 ghost use Rattle.reader.specs.Readable.{ReadAs, ComesBack};
 
 use crate::contents::{Contents, Wanted};
-use crate::fault::{Fault, Layer};
+use crate::fault::Fault;
 use crate::frames::read_frame;
 use crate::lines::{Lines, check_lines};
 use crate::machine::Machine;
 use crate::stage::Stage;
-use kinds::refusal::Cause;
 
 // The frames of a file whose lines are good.
 fn read_frames(file: &[u8], wanted: Option<Wanted>) -> Result<Contents, Fault>
@@ -25,7 +24,7 @@ fn read_frames(file: &[u8], wanted: Option<Wanted>) -> Result<Contents, Fault>
     }
     match machine.stage {
         Stage::Nothing => Ok(machine.contents),
-        _ => Err(Fault::new(Layer::Frames, Cause::Frame, lines.taken + 1)),
+        _ => Err(Fault::disorder(lines.taken + 1)),
     }
 }
 

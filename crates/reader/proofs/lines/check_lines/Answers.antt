@@ -1,11 +1,8 @@
 use Rattle.std.proofs.Common.{true, Some, None, Ok, sym, ap, ◌∙◌, arith}
 use Rattle.std.proofs.lemmas.Result.{err_from_is_err_and}
 use Rattle.reader.specs.Turns.{Next}
-use Rattle.reader.proofs.Cuts.{fold_known, upto_more, upto_broken, upto_all, upto_empty}
+use Rattle.reader.proofs.Cuts.{upto_more, upto_broken, upto_all, upto_empty}
 use Rattle.reader.proofs.lines.check_lines.Goals as goal
-
-pub new-lines-requires : goal.new-lines-requires
-new-lines-requires c = λ on. (fold_known c.args.file.now true (sym c.all_known.ensures ∙ on)).1
 
 pub returns-in_err-_line : goal.returns-in_err-_line
 returns-in_err-_line c =

@@ -52,4 +52,4 @@ returns-in-Nothing c =
 pub returns-in_default-stage : goal.returns-in_default-stage
 returns-in_default-stage c =
     missing c.args.wanted c.args.file.now c.loop-line.lines c.next_line.new.self c.in_ok-line.field-0 c.loop-line.machine _ c.loop-line.invariant.0 c.in_ok-line.ensures c.in_default.is c.loop-line.invariant.1
-    c.in_default-stage.not-Nothing c.new.ensures
+    c.in_default-stage.not-Nothing c.disorder.ensures
