@@ -5,8 +5,9 @@
 --     line_text       what such a line came to
 --     reply_text      of a line's answer, or why there is none
 --     side_text       on which side of the allowance a gap lies
+--     gap_text        of a gap over its denominator
 --     tally_text      of a tally
-use Rattle.std.specs.Prelude.{ℕ, cond, List, ◌++◌, ℤ, pos, Ok, Err, Result, codes, int_le}
+use Rattle.std.specs.Prelude.{ℕ, cond, List, ◌++◌, ℤ, pos, Ok, Err, Result, codes, int_le, unsigned_abs}
 use Rattle.std.specs.Fmt.{decimal, signed_decimal}
 use Rattle.std.specs.List.{flat_map}
 use Rattle.kinds.specs.Refusals.{number_of}
@@ -15,6 +16,7 @@ use Rattle.weigh.specs.declared.answer.Answer.{Answer}
 use Rattle.weigh.specs.declared.answer.Answer.TheVariants.{Done, Table, Multipliers}
 use Rattle.weigh.specs.declared.answer.No.{No}
 use Rattle.weigh.specs.declared.answer.No.TheVariants.{Refused, NotACall}
+use Rattle.weigh.specs.declared.firing.GapOver.{GapOver}
 use Rattle.weigh.specs.declared.report.Reply.{Reply}
 use Rattle.weigh.specs.declared.tally.Tally.{Tally}
 
@@ -40,6 +42,12 @@ reply_text r = line_text r.number r.answer
 
 abbrev pub side_text : Gap → List ℕ
 side_text g = cond (int_le (pos 0) g.spare) (codes "within") (codes "above")
+
+abbrev pub gap_text : GapOver → List ℕ
+gap_text g =
+    codes "gap " ++ signed_decimal g.gap.scaled ++ codes "/" ++ signed_decimal g.denominator ++ codes " "
+    ++ side_text g.gap ++ codes " the allowance by " ++ decimal (unsigned_abs g.gap.spare) ++ codes "/"
+    ++ signed_decimal g.denominator
 
 abbrev pub tally_text : Tally → List ℕ
 tally_text t =

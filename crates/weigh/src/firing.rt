@@ -154,6 +154,7 @@ impl Firing {
     }
 
     // Weighs a table and keeps its cost. The rows stand at the start of `place`.
+    // Kept so: `multipliers` has the same three steps, but it weighs, keeps and answers something else at each.
     pub(crate) fn table<'a>(
         &mut self,
         values: &[i64],

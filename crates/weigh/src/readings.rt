@@ -28,6 +28,7 @@ impl Readings {
     pub(crate) fn new() -> Readings
         ensures { result ≡ [] }
     {
+        // Kept so: `Reading` belongs to `kinds`, which has no `Default` for it.
         let blank = Reading {
             minute: 0,
             crude: 0,

@@ -74,13 +74,17 @@ impl fmt::Display for Figures<'_> {
     }
 }
 
-// No text is stated: std states none for numbers of 128 bits.
 impl fmt::Display for GapOver {
+    ghost use Rattle.std.specs.Prelude.{Some};
+    ghost use Rattle.weigh.specs.Printed.{gap_text};
+
+    ghost output = { λ gap. Some (gap_text gap) };
+
     fn fmt<W: fmt::Write>(&self, f: &mut fmt::Formatter<W>) -> fmt::Result {
-        let GapOver { gap, denominator } = *self;
-        let scaled = gap.scaled;
-        let side = side(&gap);
-        let spare = gap.spare.unsigned_abs();
+        let GapOver { gap, denominator } = self;
+        let Gap { scaled, spare } = gap;
+        let side = side(gap);
+        let spare = spare.unsigned_abs();
         write!(
             f,
             "gap {scaled}/{denominator} {side} the allowance by {spare}/{denominator}"
