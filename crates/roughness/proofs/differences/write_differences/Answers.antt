@@ -1,11 +1,9 @@
-use Rattle.std.proofs.Common.{◌≡◌, ◌+◌, ◌∙◌, drop, refl, arith}
+use Rattle.std.proofs.Common.{◌+◌, ◌∙◌, refl, arith}
 use Rattle.std.proofs.lemmas.List.{set-get_or}
 use borrow.Author.Differences.{ints}
-use Rattle.kinds.specs.Figures.{largest}
 use Rattle.kinds.proofs.Places.{written_more, written_all, size_at}
-use Rattle.roughness.specs.Maps.{differences}
 use Rattle.roughness.specs.Diffs.{differences_more, differences_all}
-use Rattle.roughness.proofs.Windows.{window_more, window_none, windows_begin, written_begin}
+use Rattle.roughness.proofs.Windows.{window_more, window_none}
 use Rattle.roughness.proofs.differences.write_differences.Goals as goal
 
 pub overflow_sub-row : goal.overflow_sub-row

@@ -1,7 +1,6 @@
-use Rattle.std.proofs.Common.{◌≡◌, ◌+◌, ◌∙◌, length, ap, sym, set, refl, w64, to_z, arith}
+use Rattle.std.proofs.Common.{◌≡◌, ◌∙◌, length, ap, sym, set, refl, w64, to_z, arith}
 use Rattle.std.proofs.lemmas.List.{length-drop}
 use borrow.Author.Differences.{ints}
-use Rattle.kinds.specs.Figures.{largest}
 use Rattle.kinds.proofs.Places.{written_more, size_at}
 use Rattle.roughness.specs.Diffs.{back_more, back_last}
 use Rattle.roughness.proofs.Windows.{figure_more}
