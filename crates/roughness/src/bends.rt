@@ -72,9 +72,13 @@ pub(crate) fn write_bends_back(minutes: &[i64], multipliers: &[i64], columns: &m
 {
     let mut here = 0;
     let mut next = 0;
-    for (k, (moments, multiplier)) in minutes.array_windows::<3>().zip(multipliers).enumerate() {
+    let mut windows = minutes.array_windows::<3>().zip(multipliers);
+    for column in columns[..multipliers.len()].iter_mut() {
+        let Some((moments, multiplier)) = windows.next() else {
+            return;
+        };
         let [first, second, third] = Steps::between(moments).shares(*multiplier);
-        columns[k] = here + first;
+        *column = here + first;
         here = next - second;
         next = third;
     }
