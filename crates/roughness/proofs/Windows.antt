@@ -2,11 +2,11 @@
 --     Before        what a window's iterator has left after k windows: the list from its k-th figure on
 --     Window        one window more: where it stands in the list, and what is left
 --     Figure        one figure more of a list that is gone through beside the windows
-use Rattle.std.proofs.Common.{◌≡◌, ℕ, zero, suc, ◌+◌, ◌<◌, ◌≤◌, true, List, [], ◌∷◌, length, get_or, take, drop, ℤ, pos, sym, ap, ap₂, ◌∙◌, subst, arith}
-use Rattle.std.proofs.lemmas.List.{get_or-take, get_or-drop, drop-drop, length-drop}
+use Rattle.std.proofs.Common.{◌≡◌, ℕ, zero, suc, ◌+◌, ◌<◌, ◌≤◌, true, List, [], ◌∷◌, ◌++◌, length, get_or, take, drop, set, ℤ, pos, sym, ap, ap₂, ◌∙◌, subst, arith}
+use Rattle.std.proofs.lemmas.List.{get_or-take, get_or-drop, drop-drop, length-drop, length-append, set-append_left}
 use Rattle.kinds.specs.Figures.{largest}
 use Rattle.kinds.specs.Minutes.{may_follow, lawful}
-use Rattle.kinds.proofs.Places.{Written, written_none}
+use Rattle.kinds.proofs.Places.{Written, written_more}
 use Rattle.roughness.specs.Maps.{step}
 use Rattle.roughness.specs.Steps.{lawful_at}
 use Rattle.roughness.specs.Bending.{step_at, step_after}
@@ -72,9 +72,11 @@ window_none {n} {k} {xs} {was} {size} b short =
 pub windows_begin : {n k : ℕ} {xs rest : List ℤ} {size : ℕ} → k ≡ 0 → size ≡ n → rest ≡ xs → n ≤ length xs + 1 → Before n k xs size rest
 windows_begin {n} {k} {xs} {rest} {size} none is all h = record { wide = is; from = all ∙ ap (λ (j : ℕ). drop j xs) (sym none); within = omega arith }
 
--- nothing is written yet, where k counts from 0
-pub written_begin : {k : ℕ} (F : ℕ → List ℤ) (old : List ℤ) → k ≡ 0 → Written k (F k) (F 0) old old
-written_begin {k} F old none = subst (λ (j : ℕ). Written j (F j) (F 0) old old) (sym none) (written_none (F 0) old)
+-- one figure more is written, where only the front of the place is gone through
+pub written_front : (k : ℕ) (x : ℤ) (was rest new old front behind : List ℤ) → Written k was new old (front ++ behind) → k < length front → was ≡ x ∷ rest → Written (k + 1) rest new old (set front k x ++ behind)
+written_front k x was rest new old front behind w h e =
+    subst (λ (place : List ℤ). Written (k + 1) rest new old place) (set-append_left front behind k x h)
+    (written_more k x was rest new old (front ++ behind) w (omega (arith, length-append front behind)) e)
 
 -- one figure more, of a list whose figures are taken one by one beside the windows
 pub record Figure (k : ℕ) (xs : List ℤ) (x : ℤ) (rest : List ℤ) : Type 0 where

@@ -53,13 +53,14 @@ pub(crate) fn write_bends(minutes: &[i64], values: &[i64], rows: &mut [i64])
     requires { (lawful minutes.now ≡ true) × ((length values.now ≡ length minutes.now) × ((largest values.now ≤ 1000000000000) × ((2 < length minutes.now) × (length minutes.now ≤ length rows.old + 2)))) }
     ensures { rows.new ≡ over (bends minutes.now values.now) rows.old }
 {
-    // Kept so: a zip with `rows.iter_mut()` was tried, and after such a loop nothing is known of what it wrote.
-    for (k, (moments, figures)) in minutes
+    let mut windows = minutes
         .array_windows::<3>()
-        .zip(values.array_windows::<3>())
-        .enumerate()
-    {
-        rows[k] = Steps::between(moments).bend(figures);
+        .zip(values.array_windows::<3>());
+    for row in rows.iter_mut() {
+        let Some((moments, figures)) = windows.next() else {
+            return;
+        };
+        *row = Steps::between(moments).bend(figures);
     }
 }
 
@@ -71,9 +72,13 @@ pub(crate) fn write_bends_back(minutes: &[i64], multipliers: &[i64], columns: &m
 {
     let mut here = 0;
     let mut next = 0;
-    for (k, (moments, multiplier)) in minutes.array_windows::<3>().zip(multipliers).enumerate() {
+    let mut windows = minutes.array_windows::<3>().zip(multipliers);
+    for column in columns[..multipliers.len()].iter_mut() {
+        let Some((moments, multiplier)) = windows.next() else {
+            return;
+        };
         let [first, second, third] = Steps::between(moments).shares(*multiplier);
-        columns[k] = here + first;
+        *column = here + first;
         here = next - second;
         next = third;
     }

@@ -1,45 +1,40 @@
-use Rattle.std.proofs.Common.{◌≡◌, ◌+◌, drop, sym, arith}
+use Rattle.std.proofs.Common.{◌+◌, ◌∙◌, refl, arith}
+use Rattle.std.proofs.lemmas.List.{set-get_or}
 use borrow.Author.Differences.{ints}
-use Rattle.std.specs.Iterator.Adapters.{enumerate_count}
-use Rattle.kinds.specs.Figures.{largest}
 use Rattle.kinds.proofs.Places.{written_more, written_all, size_at}
-use Rattle.roughness.specs.Maps.{differences}
 use Rattle.roughness.specs.Diffs.{differences_more, differences_all}
-use Rattle.roughness.proofs.Windows.{window_more, window_none, windows_begin, written_begin}
+use Rattle.roughness.proofs.Windows.{window_more, window_none}
 use Rattle.roughness.proofs.differences.write_differences.Goals as goal
 
-pub loop-k-init : goal.loop-k-init
-loop-k-init c = record {
-  written = written_begin (λ k. differences (drop k c.args.values.now)) _ (cc);
-  left = windows_begin (cc) (cc) (cc) (omega arith);
-}
-
-pub overflow_sub-rows : goal.overflow_sub-rows
-overflow_sub-rows c =
+pub overflow_sub-row : goal.overflow_sub-row
+overflow_sub-row c =
     let vs = c.args.values.now in
+    let k = c.loop-row.row-index in
     let s = c.in-Some.ensures.steps in
-    let w = window_more c.loop-k.invariant.left c.in-Some.k c.in-Some.field-0-1.now _ _ s.1 (omega arith) s.0.0 s.0.1.0 s.0.1.1 s.0.1.2 in
-    omega (arith, ints, w.first, w.second (omega arith), size_at vs c.in-Some.k, size_at vs (c.in-Some.k + 1))
+    let w = window_more c.loop-row.invariant.left k c.in-Some.field-0.now _ _ refl (omega arith) s.0 s.1.0 s.1.1 s.1.2 in
+    omega (arith, ints, w.first, w.second (omega arith), size_at vs k, size_at vs (k + 1))
 
-pub loop-k-preserved : goal.loop-k-preserved
-loop-k-preserved c =
+pub loop-row-preserved : goal.loop-row-preserved
+loop-row-preserved c =
     let vs = c.args.values.now in
-    let k = c.in-Some.k in
+    let k = c.loop-row.row-index in
     let s = c.in-Some.ensures.steps in
-    let w = window_more c.loop-k.invariant.left k c.in-Some.field-0-1.now _ _ s.1 (omega arith) s.0.0 s.0.1.0 s.0.1.1 s.0.1.2 in
+    let w = window_more c.loop-row.invariant.left k c.in-Some.field-0.now _ _ refl (omega arith) s.0 s.1.0 s.1.1 s.1.2 in
     let long = w.long in
-    let next : enumerate_count c.next.new.self ≡ k + 1 = omega arith in
-    let size = largest vs in
-    rw next (record {
+    record {
       written =
-          written_more k _ _ _ _ _ c.loop-k.rows (rw (sym s.1) at c.loop-k.invariant.written) (omega arith)
+          written_more k _ _ _ _ _ c.loop-row.rows c.loop-row.invariant.written (omega arith)
           (differences_more vs k _ (omega arith) (omega (arith, ints, w.first, w.second (omega arith), size_at vs k, size_at vs (k + 1))));
       left = w.next;
-    })
+    }
+
+pub returns-in_default : goal.returns-in_default
+returns-in_default c =
+    let s = c.in_default.ensures.steps in
+    let short = window_none c.loop-row.invariant.left s.1.0 in
+    set-get_or c.loop-row.rows c.loop-row.row-index _
+    ∙ written_all _ _ _ _ c.loop-row.rows c.loop-row.invariant.written (omega arith) (differences_all c.args.values.now _ (omega arith))
 
 pub returns : goal.returns
 returns c =
-    let s = c.in-None.ensures.steps in
-    let short = window_none c.loop-k.invariant.left s.0.1.0 in
-    let within = c.loop-k.invariant.left.within in
-    written_all _ _ _ _ c.loop-k.rows c.loop-k.invariant.written (omega arith) (differences_all c.args.values.now _ (omega arith))
+    written_all _ _ _ _ c.loop-row.rows c.loop-row.invariant.written (omega arith) (differences_all c.args.values.now _ (omega arith))
