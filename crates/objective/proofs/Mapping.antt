@@ -1,22 +1,41 @@
 -- The two maps of a roughness, on readings that have passed their checks.
 --     Mappable          what the readings and the kind are by then
-use Rattle.std.proofs.Common.{◌≡◌, ℕ, ◌-◌, ◌<◌, ◌≤◌, List, length, take, ℤ, None, Ok, Option, Result, ap, ◌∙◌, subst, arith, length-take}
+use Rattle.std.proofs.Common.{◌≡◌, ℕ, ◌-◌, ◌<◌, ◌≤◌, List, [], ◌∷◌, ◌++◌, length, take, set, ℤ, None, Ok, Option, Result, refl, sym, ap, ◌∙◌, subst, arith, length-take}
+use Rattle.std.proofs.lemmas.List.{append-nil, length-append, length-take-le, take-set, take_all}
 use Rattle.kinds.specs.declared.reading.Reading.{Reading}
 use Rattle.kinds.specs.declared.refusal.Refusal.{Refusal}
 use Rattle.kinds.specs.Checks.{answer}
 use Rattle.kinds.specs.Figures.{largest, over}
 use Rattle.kinds.specs.Roughness.{RoughnessMeaning, told_reach, told_growth, map_no, filled, Fills, Forwards, Backs}
 use Rattle.kinds.proofs.Passing.{mapped_none}
-use Rattle.kinds.proofs.Places.{take_over}
 use Rattle.kinds.proofs.Ring.{mul_most}
 use Rattle.objective.specs.Checks.{readings_no}
 use Rattle.objective.specs.Objective.{minutes}
 use Rattle.objective.proofs.Duality.{length_minutes}
 use Rattle.objective.proofs.Noted.{few, lawful_noted}
 
--- what is cut from the array of minutes
-pub cut_minutes : (xs : List Reading) (place old : List ℤ) → place ≡ over (minutes xs) old → take (length xs) place ≡ minutes xs
-cut_minutes xs place old e = ap (take (length xs)) e ∙ take_over (length xs) (minutes xs) old (length_minutes xs)
+-- minutes that are written one after the other: what is cut once none is left, whatever the next place then gets
+none_left : (rest : List Reading) → length rest ≡ 0 → minutes rest ≡ []
+none_left [] e = refl
+none_left (x ∷ rest) e = absurd (omega arith)
+
+module _ (k : ℕ) (rest xs : List Reading) (place : List ℤ) (inv : take k place ++ minutes rest ≡ minutes xs) (h : k ≤ length place) (none : length rest ≡ 0) where
+  front : take k place ≡ minutes xs
+  front = sym (append-nil (take k place)) ∙ ap (λ (l : List ℤ). take k place ++ l) (sym (none_left rest none)) ∙ inv
+
+  long : length xs ≡ k
+  long = sym (length_minutes xs) ∙ ap length (sym front) ∙ length-take-le k place h
+
+  pub cut_minutes : take (length xs) place ≡ minutes xs
+  cut_minutes = ap (λ (n : ℕ). take n place) long ∙ front
+
+  pub cut_before : (x : ℤ) → take (length xs) (set place k x) ≡ minutes xs
+  cut_before x = ap (λ (n : ℕ). take n (set place k x)) long ∙ take-set place k x ∙ front
+
+-- once the place is full
+pub full_left : (k : ℕ) (rest xs : List Reading) (place : List ℤ) → take k place ++ minutes rest ≡ minutes xs → length place ≤ k → length xs ≤ length place → length rest ≡ 0
+full_left k rest xs place inv full few =
+    omega (arith, ap length inv, length-append (take k place) (minutes rest), ap length (take_all k place full), length_minutes rest, length_minutes xs)
 
 -- such an array has room for them
 pub cut_fits : (xs : List Reading) (place : List ℤ) → take (length xs) place ≡ minutes xs → length xs ≤ length place

@@ -1,12 +1,12 @@
 -- Slopes that a kind of penalty answers for.
-use Rattle.std.proofs.Common.{◌≡◌, ℕ, ◌+◌, ◌<◌, ◌≤◌, Bool, true, false, cond, List, ◌∷◌, length, get_or, drop, ℤ, pos, neg_ℤ, nat_abs, Some, None, Option, unwrap_or, sym, refl, ap, ◌∙◌, arith, w64, SFits}
+use Rattle.std.proofs.Common.{◌≡◌, ℕ, ◌+◌, ◌<◌, ◌≤◌, Bool, true, false, not, List, [], ◌∷◌, ℤ, neg_ℤ, nat_abs, Some, None, Option, unwrap_or, refl, ◌∙◌, arith, w64, SFits}
 use borrow.Author.Differences.{ints}
-use Rattle.std.proofs.lemmas.List.{drop_more, at_drop_all}
+use Rattle.std.specs.List.{position, position_from, zip}
+use Rattle.std.proofs.lemmas.Iterator.Adapters.{position_from-zero}
 use Rattle.kinds.specs.declared.reading.Reading.{Reading}
 use Rattle.kinds.specs.Penalty.{PenaltyMeaning, PenaltyLaws, Weight, Denominator, is_weight, is_denominator, allows_answer}
 use Rattle.kinds.proofs.Ring.{mul_most}
 use Rattle.objective.specs.Checks.{first_column_off}
-use Rattle.objective.proofs.Noted.{blank}
 
 pub weight_of : (w : ℤ) → is_weight w ≡ true → Weight (nat_abs w)
 weight_of w e = grind (arith, ints)
@@ -43,19 +43,14 @@ slope_or_false p law steep w d s (Some b) e hw hd = slope_told p w d s b e
 pub denominator_fits : (d : ℤ) → is_denominator d ≡ true → SFits w64 d
 denominator_fits d e = grind (arith, ints)
 
--- the search through the columns
-module _ (p : PenaltyMeaning) (d i : ℕ) (cs : List ℤ) (xs : List Reading) (found : Option ℕ) (h : i < length cs) (same : length cs ≡ length xs) (inv : first_column_off p d i (drop i cs) (drop i xs) ≡ found) where
-  here : cond (p.allows (nat_abs (get_or xs i blank).weight) d (neg_ℤ (get_or cs i (pos 0)))) (first_column_off p d (i + 1) (drop (i + 1) cs) (drop (i + 1) xs)) (Some i) ≡ found
-  here =
-      sym (ap (λ (l : List ℤ). first_column_off p d i l (drop i xs)) (drop_more cs i (pos 0) h)
-      ∙ ap (first_column_off p d i (get_or cs i (pos 0) ∷ drop (i + 1) cs)) (drop_more xs i blank (omega arith)))
-      ∙ inv
+-- the search through the columns, as the library makes it
+abbrev pub column_off : PenaltyMeaning → ℕ → ℤ × Reading → Bool
+column_off p d pair = not (p.allows (nat_abs pair.1.weight) d (neg_ℤ pair.0))
 
-  pub column_stop : p.allows (nat_abs (get_or xs i blank).weight) d (neg_ℤ (get_or cs i (pos 0))) ≡ false → found ≡ Some i
-  column_stop e = sym here ∙ ap (λ (b : Bool). cond b (first_column_off p d (i + 1) (drop (i + 1) cs) (drop (i + 1) xs)) (Some i)) e
+column_off_from : (p : PenaltyMeaning) (d i : ℕ) (cs : List ℤ) (xs : List Reading) → position_from (column_off p d) i (zip cs xs) ≡ first_column_off p d i cs xs
+column_off_from p d i [] xs = refl
+column_off_from p d i (c ∷ cs) [] = refl
+column_off_from p d i (c ∷ cs) (x ∷ xs) = let more = column_off_from p d (i + 1) cs xs in grind arith
 
-  pub column_more : p.allows (nat_abs (get_or xs i blank).weight) d (neg_ℤ (get_or cs i (pos 0))) ≡ true → first_column_off p d (i + 1) (drop (i + 1) cs) (drop (i + 1) xs) ≡ found
-  column_more e = sym (ap (λ (b : Bool). cond b (first_column_off p d (i + 1) (drop (i + 1) cs) (drop (i + 1) xs)) (Some i)) e) ∙ here
-
-pub column_all : (p : PenaltyMeaning) (d i : ℕ) (cs : List ℤ) (xs : List Reading) (found : Option ℕ) → length cs ≤ i → first_column_off p d i (drop i cs) (drop i xs) ≡ found → found ≡ None
-column_all p d i cs xs found h inv = sym inv ∙ at_drop_all (λ (l : List ℤ). first_column_off p d i l (drop i xs)) cs i h
+pub position_column : (p : PenaltyMeaning) (d : ℕ) (cs : List ℤ) (xs : List Reading) → position (column_off p d) (zip cs xs) ≡ first_column_off p d 0 cs xs
+position_column p d cs xs = position_from-zero (column_off p d) (zip cs xs) ∙ column_off_from p d 0 cs xs

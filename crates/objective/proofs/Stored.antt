@@ -1,9 +1,8 @@
 -- Lawful figures, stored in 64 bits and read again, and the pairs that a loop over two lists takes.
 use Rattle.std.proofs.Common.{◌≡◌, ℕ, ◌<◌, ◌≤◌, true, List, length, get_or, ℤ, pos, ◌-ℤ◌, nat_abs, ap, ◌∙◌, arith, w64, to_z, of_z}
 use borrow.Author.Differences.{ints}
-use Rattle.std.specs.List.{zip, enumerate_from}
+use Rattle.std.specs.List.{zip}
 use Rattle.std.proofs.lemmas.List.{get_or_default}
-use Rattle.std.proofs.lemmas.List.FromFn.{length-enumerate_from, get_or-enumerate_from}
 use Rattle.std.proofs.lemmas.Slice.Zip.{length-zip, get_or-zip}
 use Rattle.kinds.specs.declared.reading.Reading.{Reading}
 use Rattle.kinds.specs.Penalty.{is_weight, is_residual}
@@ -31,25 +30,19 @@ pub row_back : (r : ℤ) → is_residual r ≡ true → to_z w64 (of_z w64 r) �
 row_back r e = back64 r (grind arith)
 
 -- a figure and a reading that stand at one place
-pub record Paired (cs : List ℤ) (xs : List Reading) (i at : ℕ) (c : ℤ) (x : Reading) : Type 0 where
+pub record Paired (cs : List ℤ) (xs : List Reading) (i : ℕ) (c : ℤ) (x : Reading) : Type 0 where
   pub below : i < length xs
-  pub place : at ≡ i
   pub figure : c ≡ get_or cs i (pos 0)
   pub reading : x ≡ get_or xs i blank
 
-pub paired : (cs : List ℤ) (xs : List Reading) (i place : ℕ) (c : ℤ) (x : Reading) → length cs ≡ length xs → i < length (enumerate_from 0 (zip cs xs)) → ◌≡◌ {A = ℕ × (ℤ × Reading)} (place, (c, x)) (get_or (enumerate_from 0 (zip cs xs)) i (place, (c, x))) → Paired cs xs i place c x
-paired cs xs i place c x same h e =
-    let long = length-enumerate_from 0 (zip cs xs) in
+pub paired : (cs : List ℤ) (xs : List Reading) (i : ℕ) (c : ℤ) (x : Reading) → i < length (zip cs xs) → ◌≡◌ {A = ℤ × Reading} (c, x) (get_or (zip cs xs) i (c, x)) → Paired cs xs i c x
+paired cs xs i c x h e =
     let pairs = length-zip cs xs in
+    let own : i < length cs = omega arith in
     let below : i < length xs = omega arith in
-    let at = e ∙ get_or-enumerate_from 0 (zip cs xs) i (place, (c, x)) (omega arith) in
-    let pair = ap (λ (p : ℕ × (ℤ × Reading)). p.1) at ∙ get_or-zip cs xs i (c, x) (omega arith) below in
+    let pair = e ∙ get_or-zip cs xs i (c, x) own below in
     record {
       below = below;
-      place = omega (arith, ap (λ (p : ℕ × (ℤ × Reading)). p.0) at);
-      figure = ap (λ (p : ℤ × Reading). p.0) pair ∙ get_or_default cs i c (pos 0) (omega arith);
+      figure = ap (λ (p : ℤ × Reading). p.0) pair ∙ get_or_default cs i c (pos 0) own;
       reading = ap (λ (p : ℤ × Reading). p.1) pair ∙ get_or_default xs i x blank below;
     }
-
-pub pairs_end : (cs : List ℤ) (xs : List Reading) (i : ℕ) → length cs ≡ length xs → i ≡ length (enumerate_from 0 (zip cs xs)) → length cs ≤ i
-pairs_end cs xs i same e = omega (arith, length-enumerate_from 0 (zip cs xs), length-zip cs xs)

@@ -45,23 +45,15 @@ pub fn check_reading(
 ) -> Result<(), Refusal>
     ensures { result ≡ answer (reading_no count place last reading.now) tt }
 {
+    let refused = |cause: Cause| Err(Refusal { cause, place });
     if count >= 240 {
-        return Err(Refusal {
-            cause: Cause::Full,
-            place,
-        });
+        return refused(Cause::Full);
     }
     if !is_value(reading.crude) || !(0..=100).contains(&reading.weight) {
-        return Err(Refusal {
-            cause: Cause::Figure,
-            place,
-        });
+        return refused(Cause::Figure);
     }
     if !may_come(last, reading.minute) {
-        return Err(Refusal {
-            cause: Cause::Minute,
-            place,
-        });
+        return refused(Cause::Minute);
     }
     Ok(())
 }

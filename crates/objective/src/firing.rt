@@ -33,9 +33,12 @@ fn minutes_of(readings: &[Reading]) -> [i64; 240]
     ensures { take (length readings.now) result ≡ minutes readings.now }
 {
     let mut minutes = [0; 240];
-    // Kept so: a zip with `iter_mut` and `array::from_fn` were tried, and what the array holds was not proved.
-    for (at, reading) in readings.iter().enumerate() {
-        minutes[at] = reading.minute;
+    let mut rest = readings.iter();
+    for slot in minutes.iter_mut() {
+        let Some(reading) = rest.next() else {
+            break;
+        };
+        *slot = reading.minute;
     }
     minutes
 }

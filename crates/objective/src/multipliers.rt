@@ -79,16 +79,14 @@ impl<'a, R: Roughness, M: Penalty, B: Penalty> Firing<'a, R, M, B> {
         requires long { length columns.now ≡ length self.now.readings.now }
         ensures { result ≡ answer (columns_no (M.meaning self.now.kinds.now.misfit) (unsigned_abs denominator.value) columns.now self.now.readings.now) tt }
     {
-        // Kept so: the place is what a refusal names, and no index.
-        for (place, (column, reading)) in columns.iter().zip(self.readings).enumerate() {
-            if !self.misfit_allows(denominator, *column, reading) {
-                return Err(Refusal {
-                    cause: Cause::Column,
-                    place,
-                });
-            }
-        }
-        Ok(())
+        let off = columns.iter().zip(self.readings).position(
+            |(column, reading)| -> bool
+                requires figures { has_figures reading.now ≡ true }
+                requires small { unsigned_abs column.now ≤ 1000000000000 }
+                ensures { result ≡ not ((M.meaning self.entry.now.kinds.now.misfit).allows (unsigned_abs reading.entry.now.weight) (unsigned_abs denominator.value) (neg_ℤ column.entry.now)) }
+            { !self.misfit_allows(denominator, *column, reading) },
+        );
+        check_found(Cause::Column, off)
     }
 
     // The floor of columns: each times its reading's crude value.

@@ -1,5 +1,5 @@
 // The ranges of settings and values.
-// Kept so: constants `1..=1000` and the like were tried, and a constant's value may not make a range.
+// Kept so: a constant's value may not make a range with its end in it, and `1..1001` names what no rule says.
 ghost use Rattle.std.specs.Prelude.{◌≡◌, ◌*◌, ◌^◌, ◌≤◌, true, false, unsigned_abs, MatchResult};
 ghost use Rattle.kinds.specs.declared.refusal.Cause.TheVariants.{Denominator as OffRange};
 ghost use Rattle.kinds.specs.Checks.{at};

@@ -1,7 +1,7 @@
-use Rattle.std.proofs.Common.{◌≡◌, length, drop}
-use Rattle.kinds.proofs.Places.{Written}
+use Rattle.std.proofs.Common.{◌≡◌, ◌++◌, length, take}
+use Rattle.std.specs.Slice.Iter.{iter_rest}
 use Rattle.objective.specs.Objective.{minutes}
 use Rattle.objective.proofs.firing.minutes_of.Given as goal
 
-abbrev pub invariant-loop-at : goal.invariant-loop-at
-invariant-loop-at l = Written l.at (minutes (drop l.at l.readings)) (minutes l.readings) l.initial.minutes l.minutes × (length l.minutes ≡ 240)
+abbrev pub invariant-loop-slot : goal.invariant-loop-slot
+invariant-loop-slot l = (take l.slot-index l.slot-items ++ minutes (iter_rest l.rest) ≡ minutes l.readings) × (length l.slot-items ≡ 240)

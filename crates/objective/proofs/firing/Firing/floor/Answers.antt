@@ -1,4 +1,4 @@
-use Rattle.std.proofs.Common.{◌+◌, ◌≤◌, length, get_or, drop, ℤ, pos, ◌+ℤ◌, ◌*ℤ◌, nat_abs, None, refl, sym, ap, ◌∙◌, ap₂, arith}
+use Rattle.std.proofs.Common.{◌+◌, ◌≤◌, length, get_or, drop, ℤ, pos, ◌+ℤ◌, ◌*ℤ◌, nat_abs, None, sym, ap, ◌∙◌, ap₂, arith}
 use borrow.Author.Differences.{ints}
 use Rattle.std.proofs.lemmas.List.{length_push}
 use Rattle.std.proofs.lemmas.Slice.Zip.{zip_turn, zip_end}
@@ -16,10 +16,10 @@ use Rattle.objective.proofs.firing.Firing.floor.Goals as goal
 use Rattle.objective.proofs.firing.Firing.floor.Goals.{In-Some}
 
 -- where the pair of this turn stands
-here : (g : Over) (c : In-Some g) → Paired c.args.columns.now c.args.self.now.readings.now (length c.loop-column.yielded) (length c.loop-column.yielded) c.in-Some.column.now c.in-Some.reading.now
+here : (g : Over) (c : In-Some g) → Paired c.args.columns.now c.args.self.now.readings.now (length c.loop-column.yielded) c.in-Some.column.now c.in-Some.reading.now
 here g c =
     let t = zip_turn c.args.columns.now c.args.self.now.readings.now c.loop-column.yielded c.into_iter-column-iterator.result c.loop-column.column-iterator c.next.new.self c.next.result (cc) (cc) c.loop-column.yielded_by (c.in-Some.column, c.in-Some.reading) c.in-Some.is c.next.ensures.steps in
-    record { below = t.1; place = refl; figure = t.2 (pos 0); reading = t.3 blank }
+    record { below = t.1; figure = t.2 (pos 0); reading = t.3 blank }
 
 column : (g : Over) (c : In-Some g) → nat_abs c.in-Some.column.now ≤ 1000000000000
 column g c = omega (arith, ap nat_abs (here g c).figure, size_at c.args.columns.now (length c.loop-column.yielded), c.requires.small)

@@ -1,4 +1,4 @@
-use Rattle.std.proofs.Common.{◌≡◌, true, length, ℤ, pos, ◌-ℤ◌, nat_abs, None, refl, ap, ◌∙◌, ap₂, arith}
+use Rattle.std.proofs.Common.{◌≡◌, true, length, ℤ, pos, ◌-ℤ◌, nat_abs, None, ap, ◌∙◌, ap₂, arith}
 use Rattle.std.proofs.lemmas.List.{length_push}
 use Rattle.std.proofs.lemmas.Slice.Zip.{zip_turn, zip_end}
 use Rattle.kinds.specs.declared.reading.Reading.{Reading}
@@ -12,10 +12,10 @@ use Rattle.objective.proofs.firing.Firing.misfit_cost.Goals as goal
 use Rattle.objective.proofs.firing.Firing.misfit_cost.Goals.{In-Some}
 
 -- where the pair of this turn stands
-here : (g : Over) (c : In-Some g) → Paired c.args.table.now c.args.self.now.readings.now (length c.loop-reading.yielded) (length c.loop-reading.yielded) c.in-Some.value.now c.in-Some.reading.now
+here : (g : Over) (c : In-Some g) → Paired c.args.table.now c.args.self.now.readings.now (length c.loop-reading.yielded) c.in-Some.value.now c.in-Some.reading.now
 here g c =
     let t = zip_turn c.args.self.now.readings.now c.args.table.now c.loop-reading.yielded c.into_iter-reading-iterator.result c.loop-reading.reading-iterator c.next.new.self c.next.result (cc) (cc) c.loop-reading.yielded_by (c.in-Some.reading, c.in-Some.value) c.in-Some.is c.next.ensures.steps in
-    record { below = t.0; place = refl; figure = t.3 (pos 0); reading = t.2 blank }
+    record { below = t.0; figure = t.3 (pos 0); reading = t.2 blank }
 
 value : (g : Over) (c : In-Some g) → is_value c.in-Some.value.now ≡ true
 value g c =
