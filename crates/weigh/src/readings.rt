@@ -28,7 +28,7 @@ impl Readings {
     pub(crate) fn new() -> Readings
         ensures { result ≡ [] }
     {
-        // Kept so: `Reading` belongs to `kinds`, which has no `Default` for it.
+        // Kept so: it only fills the place; a `Default` would make a reading of it, and is no plainer.
         let blank = Reading {
             minute: 0,
             crude: 0,
