@@ -7,8 +7,8 @@ use Rattle.roughness.specs.Bending.{bends_more, bends_all}
 use Rattle.roughness.proofs.Windows.{window_more, window_none, moments_follow, moments_step}
 use Rattle.roughness.proofs.bends.write_bends.Goals as goal
 
-pub between-requires : goal.between-requires
-between-requires c =
+pub between-steps-requires : goal.between-steps-requires
+between-steps-requires c =
     let s = c.in-Some.ensures.steps in
     moments_follow c.requires.0 (window_more c.loop-row.invariant.minutes c.loop-row.row-index c.in-Some.moments.now _ _ refl (omega arith) s.0.0 s.0.1.0 s.0.1.1 s.0.1.2)
 
@@ -29,8 +29,8 @@ loop-row-preserved c =
     let step = moments_step m in
     let second = v.second (omega arith) in
     let third = v.third (omega arith) in
-    let before = c.between.ensures.0 ∙ step.0 in
-    let after = c.between.ensures.1 ∙ step.1 in
+    let before = c.between-steps.ensures.0 ∙ step.0 in
+    let after = c.between-steps.ensures.1 ∙ step.1 in
     record {
       written =
           written_more k _ _ _ _ _ c.loop-row.rows c.loop-row.invariant.written (omega arith)
