@@ -42,14 +42,13 @@ window_at {n} {k} {xs} {was} {size} b w j h is =
     ∙ ap (λ (l : List ℤ). get_or l j (pos 0)) b.from
     ∙ get_or-drop k xs j (pos 0)
 
--- i is the number that the loop counts
-pub window_more : {n k : ℕ} {xs was : List ℤ} {size : ℕ} → Before n k xs size was → (i : ℕ) (w : List ℤ) (after : ℕ) (rest : List ℤ) → i ≡ k → 0 < n → after ≡ size → size ≤ length was → w ≡ take size was → rest ≡ drop 1 was → Window n i xs w after rest
-window_more {n} {k} {xs} {was} {size} b i w after rest at some same long is left =
+pub window_more : {n k : ℕ} {xs was : List ℤ} {size : ℕ} → Before n k xs size was → (w : List ℤ) (after : ℕ) (rest : List ℤ) → 0 < n → after ≡ size → size ≤ length was → w ≡ take size was → rest ≡ drop 1 was → Window n k xs w after rest
+window_more {n} {k} {xs} {was} {size} b w after rest some same long is left =
     let count = length-drop k xs in
     let whole : length was ≡ length (drop k xs) = ap length b.from in
     let wide = b.wide in
-    let here : k + 0 ≡ i = omega arith in
-    let place = λ (j : ℕ) (h : j < n). window_at b w j h is ∙ ap (λ (m : ℕ). get_or xs (m + j) (pos 0)) (sym at) in record {
+    let here : k + 0 ≡ k = omega arith in
+    let place = λ (j : ℕ) (h : j < n). window_at b w j h is in record {
       long = omega arith;
       first = window_at b w 0 some is ∙ ap (λ (m : ℕ). get_or xs m (pos 0)) here;
       second = place 1;
@@ -57,7 +56,7 @@ window_more {n} {k} {xs} {was} {size} b i w after rest at some same long is left
       small = omega (arith, ap largest is, ap largest b.from, largest_take size was, largest_drop k xs);
       next = record {
         wide = same ∙ b.wide;
-        from = left ∙ ap (drop 1) b.from ∙ drop-drop 1 k xs ∙ ap (λ (m : ℕ). drop (m + 1) xs) (sym at);
+        from = left ∙ ap (drop 1) b.from ∙ drop-drop 1 k xs;
         within = omega arith;
       };
     }
@@ -68,9 +67,6 @@ window_none {n} {k} {xs} {was} {size} b short =
     let whole : length was ≡ length (drop k xs) = ap length b.from in
     let size_is = b.wide in
     omega arith
-
-pub windows_begin : {n k : ℕ} {xs rest : List ℤ} {size : ℕ} → k ≡ 0 → size ≡ n → rest ≡ xs → n ≤ length xs + 1 → Before n k xs size rest
-windows_begin {n} {k} {xs} {rest} {size} none is all h = record { wide = is; from = all ∙ ap (λ (j : ℕ). drop j xs) (sym none); within = omega arith }
 
 -- one figure more is written, where only the front of the place is gone through
 pub written_front : (k : ℕ) (x : ℤ) (was rest new old front behind : List ℤ) → Written k was new old (front ++ behind) → k < length front → was ≡ x ∷ rest → Written (k + 1) rest new old (set front k x ++ behind)
@@ -84,15 +80,15 @@ pub record Figure (k : ℕ) (xs : List ℤ) (x : ℤ) (rest : List ℤ) : Type 0
   pub here : x ≡ get_or xs k (pos 0)
   pub next : rest ≡ drop (k + 1) xs
 
-pub figure_more : {i k : ℕ} (xs was : List ℤ) (x : ℤ) (rest : List ℤ) → was ≡ drop k xs → i ≡ k → was ≡ x ∷ rest → Figure i xs x rest
-figure_more {i} {k} xs was x rest from at is =
-    let left : drop i xs ≡ x ∷ rest = ap (λ (m : ℕ). drop m xs) at ∙ sym from ∙ is in
-    let count = length-drop i xs in
-    let whole : length (drop i xs) ≡ length (x ∷ rest) = ap length left in
-    let none : i + 0 ≡ i = omega arith in record {
+pub figure_more : {k : ℕ} (xs was : List ℤ) (x : ℤ) (rest : List ℤ) → was ≡ drop k xs → was ≡ x ∷ rest → Figure k xs x rest
+figure_more {k} xs was x rest from is =
+    let left : drop k xs ≡ x ∷ rest = sym from ∙ is in
+    let count = length-drop k xs in
+    let whole : length (drop k xs) ≡ length (x ∷ rest) = ap length left in
+    let none : k + 0 ≡ k = omega arith in record {
       long = omega arith;
-      here = ap (λ (l : List ℤ). get_or l 0 (pos 0)) (sym left) ∙ get_or-drop i xs 0 (pos 0) ∙ ap (λ (m : ℕ). get_or xs m (pos 0)) none;
-      next = ap (drop 1) (sym left) ∙ drop-drop 1 i xs;
+      here = ap (λ (l : List ℤ). get_or l 0 (pos 0)) (sym left) ∙ get_or-drop k xs 0 (pos 0) ∙ ap (λ (m : ℕ). get_or xs m (pos 0)) none;
+      next = ap (drop 1) (sym left) ∙ drop-drop 1 k xs;
     }
 
 -- three minutes in a row of a lawful list, and their steps

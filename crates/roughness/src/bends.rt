@@ -60,7 +60,8 @@ pub(crate) fn write_bends(minutes: &[i64], values: &[i64], rows: &mut [i64])
         let Some((moments, figures)) = windows.next() else {
             return;
         };
-        *row = Steps::between(moments).bend(figures);
+        let steps = Steps::between(moments);
+        *row = steps.bend(figures);
     }
 }
 

@@ -1,4 +1,4 @@
-use Rattle.std.proofs.Common.{◌≡◌, ◌+◌, ◌<◌, ◌≤◌, ℕ, ℤ, ◌+ℤ◌, ◌-ℤ◌, ◌++◌, nat_abs, List, get_or, pos, ◌∙◌, ⊎_elim, drop, sym, refl, ap, subst, length, arith, w64, to_z}
+use Rattle.std.proofs.Common.{◌≡◌, ◌+◌, ◌<◌, ◌≤◌, ℕ, ℤ, ◌+ℤ◌, ◌-ℤ◌, ◌++◌, nat_abs, List, get_or, pos, ◌∙◌, ⊎_elim, drop, sym, ap, subst, length, arith, w64, to_z}
 use Rattle.std.proofs.lemmas.Int.{to_z-of_z}
 use Rattle.std.proofs.lemmas.List.{length-drop, length-take-le, take-append-drop}
 use Rattle.kinds.specs.Figures.{largest}
@@ -8,7 +8,7 @@ use Rattle.kinds.proofs.Ring.{size_add_most, size_sub_most}
 use Rattle.roughness.specs.Maps.{shares, bends_back}
 use Rattle.roughness.specs.Bending.{back_more, back_last}
 use Rattle.roughness.proofs.Products.{onto}
-use Rattle.roughness.proofs.Windows.{window_more, window_none, windows_begin, written_front, figure_more, moments_follow, moments_step}
+use Rattle.roughness.proofs.Windows.{window_more, window_none, written_front, figure_more, moments_follow, moments_step}
 use Rattle.roughness.proofs.bends.write_bends_back.Goals as goal
 
 pub loop-column-init : goal.loop-column-init
@@ -16,7 +16,7 @@ loop-column-init c =
     let new = bends_back c.args.minutes.now c.args.multipliers.now in
     let old = c.args.columns.now in record {
       written = subst (λ (place : List ℤ). Written 0 new new old place) (sym (take-append-drop (length c.args.multipliers.now) old)) (written_none new old);
-      minutes = windows_begin refl (cc) (cc) (omega arith);
+      minutes = record { wide = cc; from = cc; within = omega arith };
       multipliers = (cc);
       here_small = omega arith;
       next_small = omega arith;
@@ -25,12 +25,12 @@ loop-column-init c =
 pub between-requires : goal.between-requires
 between-requires c =
     let s = c.in-Some.ensures.steps in
-    moments_follow c.requires.0 (window_more c.loop-column.invariant.minutes c.loop-column.column-index c.in-Some.moments.now _ _ refl (omega arith) s.0.0 s.0.1.0 s.0.1.1 s.0.1.2)
+    moments_follow c.requires.0 (window_more c.loop-column.invariant.minutes c.in-Some.moments.now _ _ (omega arith) s.0.0 s.0.1.0 s.0.1.1 s.0.1.2)
 
 pub shares-requires : goal.shares-requires
 shares-requires c =
     let k = c.loop-column.column-index in
-    let f = figure_more {i = k} c.args.multipliers.now _ c.in-Some.multiplier.now _ c.loop-column.invariant.multipliers refl c.in-Some.ensures.steps.1 in
+    let f = figure_more c.args.multipliers.now _ c.in-Some.multiplier.now _ c.loop-column.invariant.multipliers c.in-Some.ensures.steps.1 in
     let small = size_at c.args.multipliers.now k in
     let size : nat_abs c.in-Some.multiplier.now ≤ 1000000000000 = omega (arith, ap nat_abs f.here) in
     let fits = fits64 c.in-Some.multiplier.now (omega arith) in
@@ -58,8 +58,8 @@ loop-column-preserved c =
     let ms = c.args.multipliers.now in
     let k = c.loop-column.column-index in
     let s = c.in-Some.ensures.steps in
-    let w = window_more c.loop-column.invariant.minutes k c.in-Some.moments.now _ _ refl (omega arith) s.0.0 s.0.1.0 s.0.1.1 s.0.1.2 in
-    let f = figure_more {i = k} ms _ c.in-Some.multiplier.now _ c.loop-column.invariant.multipliers refl s.1 in
+    let w = window_more c.loop-column.invariant.minutes c.in-Some.moments.now _ _ (omega arith) s.0.0 s.0.1.0 s.0.1.1 s.0.1.2 in
+    let f = figure_more ms _ c.in-Some.multiplier.now _ c.loop-column.invariant.multipliers s.1 in
     let short = f.long in
     let most = size_at ms k in
     let size : nat_abs c.in-Some.multiplier.now ≤ 1000000000000 = omega (arith, ap nat_abs f.here) in

@@ -1,4 +1,4 @@
-use Rattle.std.proofs.Common.{◌+◌, ◌∙◌, refl, arith}
+use Rattle.std.proofs.Common.{◌+◌, ◌∙◌, arith}
 use Rattle.std.proofs.lemmas.List.{set-get_or}
 use borrow.Author.Differences.{ints}
 use Rattle.kinds.proofs.Places.{written_more, written_all, size_at}
@@ -11,7 +11,7 @@ overflow_sub-row c =
     let vs = c.args.values.now in
     let k = c.loop-row.row-index in
     let s = c.in-Some.ensures.steps in
-    let w = window_more c.loop-row.invariant.left k c.in-Some.field-0.now _ _ refl (omega arith) s.0 s.1.0 s.1.1 s.1.2 in
+    let w = window_more c.loop-row.invariant.left c.in-Some.field-0.now _ _ (omega arith) s.0 s.1.0 s.1.1 s.1.2 in
     omega (arith, ints, w.first, w.second (omega arith), size_at vs k, size_at vs (k + 1))
 
 pub loop-row-preserved : goal.loop-row-preserved
@@ -19,7 +19,7 @@ loop-row-preserved c =
     let vs = c.args.values.now in
     let k = c.loop-row.row-index in
     let s = c.in-Some.ensures.steps in
-    let w = window_more c.loop-row.invariant.left k c.in-Some.field-0.now _ _ refl (omega arith) s.0 s.1.0 s.1.1 s.1.2 in
+    let w = window_more c.loop-row.invariant.left c.in-Some.field-0.now _ _ (omega arith) s.0 s.1.0 s.1.1 s.1.2 in
     let long = w.long in
     record {
       written =

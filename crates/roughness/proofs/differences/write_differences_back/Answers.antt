@@ -1,4 +1,4 @@
-use Rattle.std.proofs.Common.{◌≡◌, ◌∙◌, length, ap, sym, set, refl, w64, to_z, arith}
+use Rattle.std.proofs.Common.{◌≡◌, ◌∙◌, length, ap, sym, set, w64, to_z, arith}
 use Rattle.std.proofs.lemmas.List.{length-drop}
 use borrow.Author.Differences.{ints}
 use Rattle.kinds.proofs.Places.{written_more, size_at}
@@ -10,14 +10,14 @@ pub overflow_sub-column : goal.overflow_sub-column
 overflow_sub-column c =
     let ms = c.args.multipliers.now in
     let k = c.loop-column.column-index in
-    let f = figure_more {i = k} ms _ c.in-Some.field-0.now _ c.loop-column.invariant.rest refl c.in-Some.ensures.steps in
+    let f = figure_more ms _ c.in-Some.field-0.now _ c.loop-column.invariant.rest c.in-Some.ensures.steps in
     omega (arith, ints, f.here, size_at ms k, c.loop-column.invariant.before_small)
 
 pub loop-column-preserved : goal.loop-column-preserved
 loop-column-preserved c =
     let ms = c.args.multipliers.now in
     let k = c.loop-column.column-index in
-    let f = figure_more {i = k} ms _ c.in-Some.field-0.now _ c.loop-column.invariant.rest refl c.in-Some.ensures.steps in
+    let f = figure_more ms _ c.in-Some.field-0.now _ c.loop-column.invariant.rest c.in-Some.ensures.steps in
     let size = size_at ms k in
     let long = f.long in
     record {
