@@ -1,5 +1,5 @@
 // The ranges of settings and values.
-// Kept so: a constant's value may not make a range with its end in it, and `1..1001` names what no rule says.
+// Kept so: a constant's value may not make a range with its end in it; `1..1001` would name a number that no rule has.
 ghost use Rattle.std.specs.Prelude.{◌≡◌, ◌*◌, ◌^◌, ◌≤◌, true, false, unsigned_abs, MatchResult};
 ghost use Rattle.kinds.specs.declared.refusal.Cause.TheVariants.{Denominator as OffRange};
 ghost use Rattle.kinds.specs.Checks.{at};
