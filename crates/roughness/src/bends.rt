@@ -75,6 +75,7 @@ pub(crate) fn write_bends_back(minutes: &[i64], multipliers: &[i64], columns: &m
     let mut next = 0;
     let mut windows = minutes.array_windows::<3>().zip(multipliers);
     for column in columns[..multipliers.len()].iter_mut() {
+        // Each multiplier has its three minutes, so this is never none.
         let Some((moments, multiplier)) = windows.next() else {
             return;
         };

@@ -4,7 +4,7 @@ ghost use Rattle.kinds.specs.Figures.{largest, over};
 ghost use Rattle.roughness.specs.Maps.{differences, differences_back};
 
 // Each value after the first, minus the one before it.
-// Kept so: here and in bends.rt figures are at most 10^12; a type of such figures would be made and opened at each call.
+// Kept so: here and in bends.rt figures are at most 10^12; a type of them would be made and opened at each call.
 pub(crate) fn write_differences(values: &[i64], rows: &mut [i64])
     requires { (largest values.now ≤ 1000000000000) × ((1 ≤ length values.now) × (length values.now ≤ length rows.old + 1)) }
     ensures { rows.new ≡ over (differences values.now) rows.old }
