@@ -102,7 +102,8 @@ impl Machine {
         self.stage = awaited(&self.contents, self.taken);
     }
 
-    // Kept so: `at`, as `wanted` below, goes along with each frame, since a fault is handed up by `?` from where it is found.
+    // Kept so: `at`, as `wanted` below, goes along with each frame, since a fault is handed up by `?` from where it
+    // is found.
     fn keep_reading(
         &mut self,
         k: usize,
