@@ -1,4 +1,3 @@
 pub mod Heads
 pub mod Marking
 pub mod Headless
-pub mod Lining

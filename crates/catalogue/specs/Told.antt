@@ -11,11 +11,9 @@ use Rattle.std.specs.Prelude.{◌≡◌, ℕ, ◌+◌, ◌*◌, ◌^◌, List, �
 use Rattle.std.specs.Int.{w64}
 use Rattle.std.proofs.Common.{of_z}
 use Rattle.digits.specs.Fields.{field}
-use Rattle.kinds.specs.Refusals.{number_of}
 use Rattle.archive.specs.File.{line}
 use Rattle.reader.specs.declared.contents.Contents.{Contents}
 use Rattle.reader.specs.declared.fault.Fault.{Fault}
-use Rattle.reader.specs.Faults.{layer_number}
 use Rattle.catalogue.specs.declared.marks.Marks.{Marks}
 use Rattle.catalogue.specs.Judged.{Judged, JudgedByHead}
 
@@ -24,7 +22,7 @@ accepted_text c =
     65 ∷ 65 ∷ (field 4 c.head.readings ++ (field 4 c.head.denominator ++ (field 16 c.cost ++ field 16 (of_z w64 c.floor))))
 
 abbrev pub refused_text : Fault → List ℕ
-refused_text f = 69 ∷ 69 ∷ (field 2 (layer_number f.layer) ++ (field 2 (number_of f.cause) ++ field 4 f.line))
+refused_text f = 69 ∷ 69 ∷ (field 2 f.layer ++ (field 2 f.number ++ field 4 f.line))
 
 abbrev pub answer_text : Result Contents Fault → List ℕ
 answer_text (Ok c) = accepted_text c
@@ -40,7 +38,7 @@ pub record LineTold (bs l : List ℕ) : Type 0 where
 
 abbrev pub packed : Result Contents Fault → ℕ
 packed (Ok c) = 0
-packed (Err f) = layer_number f.layer * 2 ^ 24 + number_of f.cause * 2 ^ 16 + f.line
+packed (Err f) = f.layer * 2 ^ 24 + f.number * 2 ^ 16 + f.line
 
 pub record Tells (m : Marks) (bs : List ℕ) (n : ℕ) : Type 0 where
   pub answer : Result Contents Fault

@@ -1,5 +1,5 @@
 // The line that tells an answer of the judge.
-ghost use Rattle.std.specs.Prelude.{◌≡◌, ◌+◌, ◌≤◌, [], ◌++◌, length};
+ghost use Rattle.std.specs.Prelude.{◌≡◌, ◌+◌, ◌≤◌, [], ◌++◌, length, take};
 ghost use Rattle.digits.specs.Fields.{field};
 ghost use Rattle.archive.specs.File.{line};
 ghost use Rattle.catalogue.specs.Told.{accepted_text, refused_text, answer_line, LineTold};
@@ -8,38 +8,24 @@ use crate::head::judge_head;
 use digits::write_field;
 use reader::contents::Contents;
 use reader::fault::Fault;
-use std::marker::Model;
 
 // The longest line has 42 digits and its end byte.
 const LONGEST: usize = 43;
 
-// A line of up to 43 bytes. In contracts it is the list of these.
+// A line of up to 43 bytes, those before `count`.
+// Kept so: no `impl Model`, since a `Copy` struct that holds one cannot be used twice as it is.
 #[derive(Clone, Copy)]
 pub struct AnswerLine {
-    // zeros from `count` on
     bytes: [u8; LONGEST],
     count: usize,
-}
-
-impl Model for AnswerLine {
-    ghost use Rattle.std.specs.Prelude.{List, ℕ, take};
-
-    ghost Value = { List ℕ };
-
-    ghost use Rattle.catalogue.specs.Line.{IsLine, line_of, text_kept};
-
-    ghost view = { λ l. take l.count l.bytes };
-
-    ghost invariant = { IsLine };
-
-    ghost inverse = { line_of };
-
-    ghost inverse_ok = { text_kept };
+    ghost room: { length bytes ≡ 43 },
+    ghost within: { count ≤ 43 },
 }
 
 impl AnswerLine {
     fn new() -> AnswerLine
-        ensures { result ≡ [] }
+        ensures count { result.count ≡ 0 }
+        ensures text { take result.count result.bytes ≡ [] }
     {
         AnswerLine {
             bytes: [0; LONGEST],
@@ -48,8 +34,9 @@ impl AnswerLine {
     }
 
     fn with(self, part: &[u8]) -> AnswerLine
-        requires { length self + length part.now ≤ 43 }
-        ensures { result ≡ self ++ part.now }
+        requires { self.count + length part.now ≤ 43 }
+        ensures count { result.count ≡ self.count + length part.now }
+        ensures text { take result.count result.bytes ≡ take self.count self.bytes ++ part.now }
     {
         let mut bytes = self.bytes;
         let count = self.count + part.len();
@@ -58,8 +45,9 @@ impl AnswerLine {
     }
 
     fn with_field<const WIDTH: usize>(self, figure: u64) -> AnswerLine
-        requires { length self + WIDTH ≤ 43 }
-        ensures { result ≡ self ++ field WIDTH figure }
+        requires { self.count + WIDTH ≤ 43 }
+        ensures count { result.count ≡ self.count + WIDTH }
+        ensures text { take result.count result.bytes ≡ take self.count self.bytes ++ field WIDTH figure }
     {
         let mut digits = [0; WIDTH];
         write_field(&mut digits, figure);
@@ -68,16 +56,15 @@ impl AnswerLine {
 
     // The bytes of the line, its end byte last.
     pub fn text(&self) -> &[u8]
-        ensures text { result.now ≡ self.now }
+        ensures text { result.now ≡ take self.now.count self.now.bytes }
         ensures within { length result.now ≤ 43 }
     {
         &self.bytes[0..self.count]
     }
 }
 
-#[tactic(auto, using(crate::proofs::Lining::lengths))]
 fn accepted_line(contents: &Contents) -> AnswerLine
-    ensures { result ≡ line (accepted_text contents.now) }
+    ensures { take result.count result.bytes ≡ line (accepted_text contents.now) }
 {
     AnswerLine::new()
         .with(b"AA")
@@ -88,21 +75,20 @@ fn accepted_line(contents: &Contents) -> AnswerLine
         .with(b"\n")
 }
 
-#[tactic(auto, using(crate::proofs::Lining::lengths))]
 fn refused_line(fault: &Fault) -> AnswerLine
-    ensures { result ≡ line (refused_text fault.now) }
+    ensures { take result.count result.bytes ≡ line (refused_text fault.now) }
 {
     AnswerLine::new()
         .with(b"EE")
-        .with_field::<2>(u8::from(fault.layer).into())
-        .with_field::<2>(u8::from(fault.cause).into())
+        .with_field::<2>(fault.layer.into())
+        .with_field::<2>(fault.number.into())
         .with_field::<4>(fault.line.into())
         .with(b"\n")
 }
 
 // The line that tells an answer, with its end byte.
 pub fn answer_line(answer: &Result<Contents, Fault>) -> AnswerLine
-    ensures { result ≡ answer_line answer.now }
+    ensures { take result.count result.bytes ≡ answer_line answer.now }
 {
     match answer {
         Ok(contents) => accepted_line(contents),
@@ -112,7 +98,7 @@ pub fn answer_line(answer: &Result<Contents, Fault>) -> AnswerLine
 
 // The line that `judge` prints for a file.
 pub fn judge_line(file: &[u8]) -> AnswerLine
-    ensures { LineTold file.now result }
+    ensures { LineTold file.now (take result.count result.bytes) }
 {
     answer_line(&judge_head(file))
 }

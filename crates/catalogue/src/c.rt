@@ -15,7 +15,7 @@ fn pack(answer: &Result<Contents, Fault>) -> u32
         Ok(_) => 0,
         Err(fault) => {
             let [high, low] = fault.line.to_be_bytes();
-            u32::from_be_bytes([fault.layer.into(), fault.cause.into(), high, low])
+            u32::from_be_bytes([fault.layer, fault.number, high, low])
         }
     }
 }

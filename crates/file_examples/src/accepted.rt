@@ -129,18 +129,18 @@ fn too_steep_comes_first(rt: HostRuntime) {
         },
     };
     let steep = Fault {
-        layer: Layer::Figures,
-        cause: Cause::Steep,
+        layer: 3,
+        number: 12,
         line: 0,
     };
     assert_eq!(rt; judge(&over(ten), b"").err(), Some(steep));
     assert_eq!(rt; judge(&over(ten), b"no file").err(), Some(steep));
-    assert_eq!(rt; (u8::from(steep.layer), u8::from(steep.cause)), (3, 12));
+    assert_eq!(rt; steep, Fault::found_by(Layer::Figures, Cause::Steep, 0));
     let empty = Fault {
-        layer: Layer::Lines,
-        cause: Cause::Line,
+        layer: 1,
+        number: 17,
         line: 1,
     };
     assert_eq!(rt; second_order(b""), Some(empty));
-    assert_eq!(rt; (u8::from(empty.layer), u8::from(empty.cause)), (1, 17));
+    assert_eq!(rt; empty, Fault::found_by(Layer::Lines, Cause::Line, 1));
 }

@@ -5,3 +5,5 @@
 mod accepted;
 #[cfg(test)]
 mod stages;
+#[cfg(test)]
+mod told;

@@ -10,7 +10,7 @@ use Rattle.kinds.specs.declared.refusal.Cause.TheVariants.{Line}
 use Rattle.digits.specs.Fields.{is_digit, Digits}
 use Rattle.reader.specs.declared.fault.Fault.{Fault}
 use Rattle.reader.specs.declared.fault.Layer.TheVariants as layer
-use Rattle.reader.specs.Faults.{fault}
+use Rattle.reader.specs.Faults.{found_by}
 use Rattle.reader.specs.Lines.{Good, pieces, before_first, Broken, Whole, is_known, Known, FirstBroken}
 use Rattle.reader.specs.Turns.{BadStart}
 
@@ -183,8 +183,8 @@ module _ (bs r : List ℕ) (t : ℕ) (u : Upto bs r t) where
   upto_sound j h (inl b) = b.1 (u.good j h)
   upto_sound j h (inr b) = omega (arith, upto_length, pieces_some r, b.0)
 
-  pub upto_broken : (f : Fault) → f ≡ fault layer.Lines Line (t + 1) → BadStart r → FirstBroken bs f
-  upto_broken f is b = record { at = t; is = is ∙ ap (fault layer.Lines Line) (omega arith); broken = go b; before = upto_sound }
+  pub upto_broken : (f : Fault) → f ≡ found_by layer.Lines Line (t + 1) → BadStart r → FirstBroken bs f
+  upto_broken f is b = record { at = t; is = is ∙ ap (found_by layer.Lines Line) (omega arith); broken = go b; before = upto_sound }
     where
       go : BadStart r → Broken bs t
       go (inl p) = inl (omega (arith, upto_length, p.0), λ g. p.1 (rw upto_first at g))
@@ -212,5 +212,5 @@ module _ (bs r : List ℕ) (t : ℕ) (u : Upto bs r t) where
             let q : j ≡ t = omega (arith, upto_count, x.0, ge) in
             ⊎_elim (λ z. ne (sym q ∙ z)) (λ z. z (upto_past j ge)) x.1
 
-    pub upto_empty : t ≡ 0 → (f : Fault) → f ≡ fault layer.Lines Line 1 → FirstBroken bs f
+    pub upto_empty : t ≡ 0 → (f : Fault) → f ≡ found_by layer.Lines Line 1 → FirstBroken bs f
     upto_empty z f is = record { at = 0; is = is; broken = inr (omega (arith, upto_count), inl refl); before = λ j h. absurd (omega arith) }

@@ -23,7 +23,7 @@ use Rattle.reader.specs.declared.machine.Machine.{Machine}
 use Rattle.reader.specs.declared.stage.Stage.{Stage}
 use Rattle.reader.specs.declared.stage.Stage.TheVariants.{Head, Reading, Entry, Multiplier, End, Nothing}
 use Rattle.reader.specs.declared.fault.Layer.TheVariants as layer
-use Rattle.reader.specs.Faults.{fault}
+use Rattle.reader.specs.Faults.{found_by}
 use Rattle.reader.specs.Lines.{Good, pieces}
 use Rattle.reader.specs.Turns.{Next}
 use Rattle.reader.specs.Frames.{stage_at, size, InTurn, HeadIs, Agrees, reach_of, Disorder, headless, unlike, many, short, misplaced}
@@ -77,12 +77,12 @@ module _ (w : Option Wanted) (ls : List (List ℕ)) (t : ℕ) (m : Machine) wher
       bad (subst (InTurn (stage_at h.readings (h.readings - reach_of w) j)) here (subst (λ z. InTurn z (text_of (figures_of m.contents) (stage_at m.contents.head.readings m.contents.count j))) s (text_in_turn (figures_of m.contents) (stage_at m.contents.head.readings m.contents.count j))))
 
   -- a fault in the line behind those that were taken is the first
-  first_at : Past w ls t m → (f : Fault) → f ≡ fault layer.Frames Frame (t + 1) → (InTurn m.stage (get_or ls t []) → ⊥) → FirstDisorder w ls f
+  first_at : Past w ls t m → (f : Fault) → f ≡ found_by layer.Frames Frame (t + 1) → (InTurn m.stage (get_or ls t []) → ⊥) → FirstDisorder w ls f
   first_at a f is bad = record {
     line = suc (suc m.taken);
     turn = 0;
     cause = Frame;
-    is = is ∙ ap (fault layer.Frames Frame) (omega (arith, a.lines));
+    is = is ∙ ap (found_by layer.Frames Frame) (omega (arith, a.lines));
     has = misplaced {j = m.taken} a.head (λ o. bad (subst (λ i. InTurn m.stage (get_or ls i [])) (sym q) (subst (λ z. InTurn z (get_or ls (suc m.taken) [])) (sym s) o)));
     before = λ l u c d e. ⊎_elim (λ lt. past_clean a l u c d (omega (arith, lt, a.lines))) (λ p. omega (arith, p.1)) e;
   }
@@ -93,12 +93,12 @@ module _ (w : Option Wanted) (ls : List (List ℕ)) (t : ℕ) (m : Machine) wher
       s : m.stage ≡ stage_at m.contents.head.readings (m.contents.head.readings - reach_of w) m.taken
       s = a.running.waits ∙ ap (λ k. stage_at m.contents.head.readings k m.taken) a.count
 
-  headless_at : t ≡ 0 → (f : Fault) → f ≡ fault layer.Frames Frame (t + 1) → (InTurn Head (get_or ls t []) → ⊥) → FirstDisorder w ls f
+  headless_at : t ≡ 0 → (f : Fault) → f ≡ found_by layer.Frames Frame (t + 1) → (InTurn Head (get_or ls t []) → ⊥) → FirstDisorder w ls f
   headless_at z f is bad = record {
     line = 1;
     turn = 0;
     cause = Frame;
-    is = is ∙ (let q : t + 1 ≡ 1 = omega (arith, z) in ap (fault layer.Frames Frame) q);
+    is = is ∙ (let q : t + 1 ≡ 1 = omega (arith, z) in ap (found_by layer.Frames Frame) q);
     has = headless (subst (λ i. InTurn Head (get_or ls i []) → ⊥) z bad);
     before = λ l u c d e. ⊎_elim (λ lt. least l u c d (omega (arith, lt))) (λ p. omega (arith, p.1)) e;
   }
@@ -110,7 +110,7 @@ module _ (w : Option Wanted) (ls : List (List ℕ)) (t : ℕ) (m : Machine) wher
       least l u c (short i less) lt = omega arith
       least l u c (misplaced i bad) lt = omega arith
 
-  odd_at : (s : Stage) → m.stage ≡ s → ReachedAt w ls t m s → (f : Fault) → f ≡ fault layer.Frames Frame (t + 1) → (InTurn s (get_or ls t []) → ⊥) → FirstDisorder w ls f
+  odd_at : (s : Stage) → m.stage ≡ s → ReachedAt w ls t m s → (f : Fault) → f ≡ found_by layer.Frames Frame (t + 1) → (InTurn s (get_or ls t []) → ⊥) → FirstDisorder w ls f
   odd_at Head e a f is bad = headless_at a f is bad
   odd_at (Reading k) e a f is bad = first_at a f is (λ o. bad (subst (λ z. InTurn z (get_or ls t [])) e o))
   odd_at (Entry k) e a f is bad = first_at a f is (λ o. bad (subst (λ z. InTurn z (get_or ls t [])) e o))
@@ -119,12 +119,12 @@ module _ (w : Option Wanted) (ls : List (List ℕ)) (t : ℕ) (m : Machine) wher
   odd_at Nothing e a f is bad = first_at a f is (λ o. bad (subst (λ z. InTurn z (get_or ls t [])) e o))
 
   -- a line that is not what the machine waits for
-  pub odd : Reached w ls t m → (f : Fault) → f ≡ fault layer.Frames Frame (t + 1) → (InTurn m.stage (get_or ls t []) → ⊥) → FirstDisorder w ls f
+  pub odd : Reached w ls t m → (f : Fault) → f ≡ found_by layer.Frames Frame (t + 1) → (InTurn m.stage (get_or ls t []) → ⊥) → FirstDisorder w ls f
   odd a f is bad = odd_at m.stage refl a f is bad
 
 -- a head that is refused
 module _ (w : Option Wanted) (ls : List (List ℕ)) (f : Fault) where
-  first_turn : (e : ℕ) (h : StatedHead) → HeadIs (get_or ls 0 []) e h → (u : ℕ) (c : Cause) → f ≡ fault layer.Frames c 1 → Disorder w ls 1 u c
+  first_turn : (e : ℕ) (h : StatedHead) → HeadIs (get_or ls 0 []) e h → (u : ℕ) (c : Cause) → f ≡ found_by layer.Frames c 1 → Disorder w ls 1 u c
       → ((l v : ℕ) (d : Cause) → Disorder w ls l v d → l ≡ 1 → v < u → ⊥) → FirstDisorder w ls f
   first_turn e h i u c is has none = record {
     line = 1;
@@ -182,7 +182,7 @@ past_reached w ls t m a = go m.stage refl
 
 -- one step of the machine, at a line
 module _ (w : Option Wanted) (ls : List (List ℕ)) (t : ℕ) (m m' : Machine) (l : List ℕ) (here : get_or ls t [] ≡ l) where
-  line_refused : Past w ls t m → (f : Fault) → (f ≡ fault layer.Frames Frame (t + 1)) × (InTurn m.stage l → ⊥) → FirstDisorder w ls f
+  line_refused : Past w ls t m → (f : Fault) → (f ≡ found_by layer.Frames Frame (t + 1)) × (InTurn m.stage l → ⊥) → FirstDisorder w ls f
   line_refused a f x = first_at w ls t m a f x.0 (λ o. x.1 (subst (InTurn m.stage) here o))
 
   head_refused : t ≡ 0 → (f : Fault) → HeadRefused w l (t + 1) f → FirstDisorder w ls f
@@ -350,10 +350,10 @@ no_digits Nothing e = refl
 
 -- nothing is left: no line stands where the machine waits for one
 pub missing : (w : Option Wanted) (bs : List ℕ) (a b : Lines) (o : Option (Bor (List ℕ))) (m : Machine) (f : Fault) → Upto bs a.rest.now a.taken → Next a b (Ok o) → o ≡ None
-    → Reached w (pieces bs) a.taken m → (m.stage ≡ Nothing → ⊥) → f ≡ fault layer.Frames Frame (b.taken + 1) → FirstDisorder w (pieces bs) f
+    → Reached w (pieces bs) a.taken m → (m.stage ≡ Nothing → ⊥) → f ≡ found_by layer.Frames Frame (b.taken + 1) → FirstDisorder w (pieces bs) f
 missing w bs a b o m f u n e r waits is =
     let x : Next a b (Ok None) = subst (λ y. Next a b (Ok y)) e n in
-    odd w (pieces bs) a.taken m r f (is ∙ ap (λ y. fault layer.Frames Frame (y.taken + 1)) x.1) (λ t. waits (no_digits m.stage (subst (InTurn m.stage) (upto_past bs a.rest.now a.taken u x.0 a.taken (omega arith)) t).sized))
+    odd w (pieces bs) a.taken m r f (is ∙ ap (λ y. found_by layer.Frames Frame (y.taken + 1)) x.1) (λ t. waits (no_digits m.stage (subst (InTurn m.stage) (upto_past bs a.rest.now a.taken u x.0 a.taken (omega arith)) t).sized))
 
 pub finished : (w : Option Wanted) (bs : List ℕ) (a b : Lines) (o : Option (Bor (List ℕ))) (m : Machine) → Upto bs a.rest.now a.taken → Next a b (Ok o) → o ≡ None
     → Reached w (pieces bs) a.taken m → m.stage ≡ Nothing → Fits 16 m.contents.cost → SFits w64 m.contents.floor → InForm w (figures_of m.contents) × (bs ≡ file (figures_of m.contents))

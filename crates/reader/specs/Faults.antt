@@ -1,7 +1,8 @@
 -- Faults, and which of several comes first.
 --     told_line       a line as it is told: 65,535 if larger
 --     layer_number    a layer's number
---     fault           a fault, of its layer, cause and line
+--     fault           a fault, of the number of its layer, its cause and line
+--     found_by        a fault that one of the three layers finds
 --     Rank            where a fault stands in the order of checking: phase, then line, then turn at that line
 --     rank            a rank of its three numbers
 --     Before          that a rank comes before another
@@ -11,6 +12,7 @@
 -- 5 the entries, 6 the multipliers, 7 the columns, 8 the end. Lines count from 1; the kinds stand in line 0.
 use Rattle.std.specs.Prelude.{◌≡◌, ℕ, zero, suc, ◌<◌, min, ◌⊎◌}
 use Rattle.kinds.specs.declared.refusal.Cause.{Cause}
+use Rattle.kinds.specs.Refusals.{number_of}
 use Rattle.reader.specs.declared.fault.Fault.{Fault}
 use Rattle.reader.specs.declared.fault.Layer.{Layer}
 use Rattle.reader.specs.declared.fault.Layer.TheVariants.{Lines, Frames, Figures}
@@ -23,8 +25,11 @@ layer_number Lines = 1
 layer_number Frames = 2
 layer_number Figures = 3
 
-abbrev pub fault : Layer → Cause → ℕ → Fault
-fault layer cause line = record { layer = layer; cause = cause; line = told_line line }
+abbrev pub fault : ℕ → Cause → ℕ → Fault
+fault layer cause line = record { layer = layer; number = number_of cause; line = told_line line }
+
+abbrev pub found_by : Layer → Cause → ℕ → Fault
+found_by layer = fault (layer_number layer)
 
 pub record Rank : Type 0 where
   pub phase : ℕ
@@ -51,5 +56,5 @@ pub record Least (Has : Rank → Cause → Type 0) (f : Fault) : Type 0 where
   pub at : Rank
   pub cause : Cause
   pub has : Has at cause
-  pub is : f ≡ fault (layer_of at.phase) cause at.line
+  pub is : f ≡ found_by (layer_of at.phase) cause at.line
   pub before : (q : Rank) (c : Cause) → Has q c → Before q at → ⊥

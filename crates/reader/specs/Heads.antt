@@ -12,7 +12,7 @@ use Rattle.reader.specs.declared.fault.Fault.{Fault}
 use Rattle.reader.specs.declared.fault.Layer.TheVariants as layer
 use Rattle.reader.specs.declared.frames.HeadFields.{HeadFields}
 use Rattle.reader.specs.declared.stage.Stage.TheVariants.{Head}
-use Rattle.reader.specs.Faults.{fault}
+use Rattle.reader.specs.Faults.{found_by}
 use Rattle.reader.specs.Frames.{InTurn, HeadIs, Like, reach_of}
 
 pub record HeadRead (f : HeadFields) (h : StatedHead) : Type 0 where
@@ -26,9 +26,9 @@ pub record HeadRead (f : HeadFields) (h : StatedHead) : Type 0 where
 
 abbrev pub HeadOff : Option Wanted → ℕ → StatedHead → ℕ → Fault → Type 0
 HeadOff w e h at f =
-    ((f ≡ fault layer.Frames Mark at) × (Like w e h → ⊥))
-    ⊎ (((f ≡ fault layer.Frames Full at) × Like w e h × (240 < h.readings))
-    ⊎ ((f ≡ fault layer.Frames Short at) × Like w e h × (h.readings ≤ 240) × (h.readings ≤ reach_of w)))
+    ((f ≡ found_by layer.Frames Mark at) × (Like w e h → ⊥))
+    ⊎ (((f ≡ found_by layer.Frames Full at) × Like w e h × (240 < h.readings))
+    ⊎ ((f ≡ found_by layer.Frames Short at) × Like w e h × (h.readings ≤ 240) × (h.readings ≤ reach_of w)))
 
 abbrev pub HeadChecked : Option Wanted → ℕ → StatedHead → ℕ → Result ℕ Fault → Type 0
 HeadChecked w e h at (Ok m) = Like w e h × (h.readings ≤ 240) × (reach_of w < h.readings) × (m ≡ h.readings - reach_of w)
@@ -36,5 +36,5 @@ HeadChecked w e h at (Err f) = HeadOff w e h at f
 
 abbrev pub HeadRefused : Option Wanted → List ℕ → ℕ → Fault → Type 0
 HeadRefused w l at f =
-    ((f ≡ fault layer.Frames Frame at) × (InTurn Head l → ⊥))
+    ((f ≡ found_by layer.Frames Frame at) × (InTurn Head l → ⊥))
     ⊎ ((e : ℕ) × (h : StatedHead) × HeadIs l e h × HeadOff w e h at f)

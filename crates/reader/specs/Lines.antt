@@ -14,7 +14,7 @@ use Rattle.kinds.specs.declared.refusal.Cause.TheVariants.{Line}
 use Rattle.digits.specs.Fields.{is_digit, Digits}
 use Rattle.reader.specs.declared.fault.Fault.{Fault}
 use Rattle.reader.specs.declared.fault.Layer.TheVariants as layer
-use Rattle.reader.specs.Faults.{fault}
+use Rattle.reader.specs.Faults.{found_by}
 
 pub record Good (l : List ℕ) : Type 0 where
   pub least : 2 ≤ length l
@@ -41,7 +41,7 @@ Whole bs = (k : ℕ) → Broken bs k → ⊥
 
 pub record FirstBroken (bs : List ℕ) (f : Fault) : Type 0 where
   pub at : ℕ
-  pub is : f ≡ fault layer.Lines Line (suc at)
+  pub is : f ≡ found_by layer.Lines Line (suc at)
   pub broken : Broken bs at
   pub before : (j : ℕ) → j < at → Broken bs j → ⊥
 

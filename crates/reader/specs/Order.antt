@@ -8,7 +8,7 @@ use Rattle.reader.specs.declared.contents.Contents.{Contents}
 use Rattle.reader.specs.declared.contents.Wanted.{Wanted}
 use Rattle.reader.specs.declared.fault.Fault.{Fault}
 use Rattle.reader.specs.declared.fault.Layer.TheVariants as layer
-use Rattle.reader.specs.Faults.{fault}
+use Rattle.reader.specs.Faults.{found_by}
 use Rattle.reader.specs.Lines.{pieces}
 use Rattle.reader.specs.Frames.{Disorder}
 use Rattle.reader.specs.Readable.{figures_of, InForm}
@@ -17,7 +17,7 @@ pub record FirstDisorder (w : Option Wanted) (ls : List (List ℕ)) (f : Fault) 
   pub line : ℕ
   pub turn : ℕ
   pub cause : Cause
-  pub is : f ≡ fault layer.Frames cause line
+  pub is : f ≡ found_by layer.Frames cause line
   pub has : Disorder w ls line turn cause
   pub before : (l t : ℕ) (c : Cause) → Disorder w ls l t c → (l < line) ⊎ ((l ≡ line) × (t < turn)) → ⊥
 

@@ -18,7 +18,7 @@ use Rattle.reader.specs.declared.machine.Machine.{Machine}
 use Rattle.reader.specs.declared.stage.Stage.{Stage}
 use Rattle.reader.specs.declared.stage.Stage.TheVariants.{Head, Reading, Entry, Multiplier, End, Nothing}
 use Rattle.reader.specs.declared.fault.Layer.TheVariants as layer
-use Rattle.reader.specs.Faults.{fault}
+use Rattle.reader.specs.Faults.{found_by}
 use Rattle.reader.specs.Heads.{HeadRefused}
 use Rattle.reader.specs.Frames.{stage_at, InTurn, HeadIs, Agrees, reach_of}
 use Rattle.reader.specs.Readable.{figures_of}
@@ -70,7 +70,7 @@ pub record LineTaken (l : List ℕ) (m m' : Machine) : Type 0 where
 
 abbrev pub LineStepped : List ℕ → ℕ → Machine → Machine → Result (Unit {0}) Fault → Type 0
 LineStepped l at m m' (Ok _) = LineTaken l m m'
-LineStepped l at m m' (Err f) = (f ≡ fault layer.Frames Frame at) × (InTurn m.stage l → ⊥)
+LineStepped l at m m' (Err f) = (f ≡ found_by layer.Frames Frame at) × (InTurn m.stage l → ⊥)
 
 abbrev pub HeadStepped : Option Wanted → List ℕ → ℕ → Machine → Result (Unit {0}) Fault → Type 0
 HeadStepped w l at m' (Ok _) = HeadTaken w l m'

@@ -7,7 +7,7 @@ use Rattle.kinds.specs.declared.refusal.Cause.TheVariants.{Line}
 use Rattle.reader.specs.declared.fault.Fault.{Fault}
 use Rattle.reader.specs.declared.lines.Lines.{Lines}
 use Rattle.reader.specs.declared.fault.Layer.TheVariants as layer
-use Rattle.reader.specs.Faults.{fault}
+use Rattle.reader.specs.Faults.{found_by}
 use Rattle.reader.specs.Lines.{Good, pieces}
 
 abbrev pub BadStart : List ℕ → Type 0
@@ -18,4 +18,4 @@ BadStart s =
 abbrev pub Next : Lines → Lines → Result (Option (Bor (List ℕ))) Fault → Type 0
 Next a b (Ok None) = (a.rest.now ≡ []) × (b ≡ a)
 Next a b (Ok (Some l)) = (a.rest.now ≡ l.now ++ (10 ∷ b.rest.now)) × (b.taken ≡ a.taken + 1) × Good l.now
-Next a b (Err f) = (f ≡ fault layer.Lines Line (a.taken + 1)) × BadStart a.rest.now
+Next a b (Err f) = (f ≡ found_by layer.Lines Line (a.taken + 1)) × BadStart a.rest.now

@@ -1,6 +1,6 @@
 // A fault of a file: why it is turned down, and where.
 ghost use Rattle.std.specs.Prelude.{◌≡◌};
-ghost use Rattle.reader.specs.Faults.{fault};
+ghost use Rattle.reader.specs.Faults.{fault, found_by};
 
 use kinds::refusal::Cause;
 
@@ -28,26 +28,41 @@ impl From<Layer> for u8 {
     }
 }
 
+// A fault in the numbers by which text and C tell it: any can be told, also one that no layer or cause has.
 #[derive(Clone, Copy, PartialEq, Eq, Debug)]
 pub struct Fault {
-    pub layer: Layer,
-    pub cause: Cause,
+    // 1 the lines, 2 the frames, 3 the figures
+    pub layer: u8,
+    // the number of the cause
+    pub number: u8,
     // counted from 1, 65,535 if larger; 0 where the fault is in no line
     pub line: u16,
 }
 
 impl Fault {
-    pub fn new(layer: Layer, cause: Cause, line: usize) -> Fault
+    pub fn new(layer: u8, cause: Cause, line: usize) -> Fault
         ensures { result ≡ fault layer cause line }
     {
         let line = u16::try_from(line).unwrap_or(u16::MAX);
-        Fault { layer, cause, line }
+        let number = cause.into();
+        Fault {
+            layer,
+            number,
+            line,
+        }
+    }
+
+    // A fault that one of the three layers finds.
+    pub fn found_by(layer: Layer, cause: Cause, line: usize) -> Fault
+        ensures { result ≡ found_by layer cause line }
+    {
+        Fault::new(layer.into(), cause, line)
     }
 
     // A line that is no frame, or not the one that has to come.
     pub(crate) fn disorder(line: usize) -> Fault
-        ensures { result ≡ fault Layer.Frames Cause.Frame line }
+        ensures { result ≡ found_by Layer.Frames Cause.Frame line }
     {
-        Fault::new(Layer::Frames, Cause::Frame, line)
+        Fault::found_by(Layer::Frames, Cause::Frame, line)
     }
 }

@@ -1,7 +1,7 @@
 // The second layer: the frames, with their fields as parts of the file.
 ghost use Rattle.std.specs.Prelude.{◌≡◌, MatchResult};
 ghost use Rattle.kinds.specs.declared.refusal.Cause.{Cause};
-ghost use Rattle.reader.specs.Faults.{fault};
+ghost use Rattle.reader.specs.Faults.{found_by};
 ghost use Rattle.reader.specs.declared.fault.Layer.{Layer};
 ghost use Rattle.reader.specs.Lines.{Good};
 ghost use Rattle.reader.specs.Shapes.{frame_text, NoFrame};
@@ -49,7 +49,7 @@ pub(crate) enum Frame<'a> {
 // The frame that a line is, by its leading pair and how many digits follow.
 pub(crate) fn read_frame<'a>(line: &'a [u8], at: usize) -> Result<Frame<'a>, Fault>
     requires { Good line.now }
-    ensures { MatchResult result (λ f. line.now ≡ frame_text f) (λ e. (e ≡ fault Layer.Frames Cause.Frame at) × NoFrame line.now) }
+    ensures { MatchResult result (λ f. line.now ≡ frame_text f) (λ e. (e ≡ found_by Layer.Frames Cause.Frame at) × NoFrame line.now) }
 {
     let [a, b, rest @ ..] = line else {
         return Err(Fault::disorder(at));

@@ -101,7 +101,7 @@ impl<'a> Lines<'a> {
         }
         let end = self.leading_digits();
         if end == self.rest.len() || self.rest[end] != b'\n' || end < 2 || end > 60 {
-            return Err(Fault::new(Layer::Lines, Cause::Line, self.taken + 1));
+            return Err(Fault::found_by(Layer::Lines, Cause::Line, self.taken + 1));
         }
         let (line, more) = self.rest.split_at(end);
         self.rest = &more[1..];
@@ -117,7 +117,7 @@ pub(crate) fn check_lines(file: &[u8]) -> Result<(), Fault>
     let mut lines = Lines::new(file, all_known(file));
     while let Some(_line) = lines.next_line()? {}
     if lines.taken == 0 {
-        return Err(Fault::new(Layer::Lines, Cause::Line, 1));
+        return Err(Fault::found_by(Layer::Lines, Cause::Line, 1));
     }
     Ok(())
 }

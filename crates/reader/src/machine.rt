@@ -1,7 +1,7 @@
 // The machine of the frame layer: the stage that is reached and the frame that comes decide whether it is in order.
 ghost use Rattle.std.specs.Prelude.{◌≡◌, ◌≢◌, ◌+◌, ◌∷◌, ◌++◌, MatchResult};
 ghost use Rattle.digits.specs.Fields.{Number};
-ghost use Rattle.reader.specs.Faults.{fault};
+ghost use Rattle.reader.specs.Faults.{found_by};
 ghost use Rattle.reader.specs.Frames.{stage_at};
 ghost use Rattle.reader.specs.Heads.{HeadRead, HeadChecked};
 ghost use Rattle.reader.specs.Shapes.{frame_text};
@@ -45,21 +45,21 @@ fn check_head(wanted: Option<Wanted>, edition: u64, head: Head, at: usize) -> Re
             && head.misfit == u64::from(wanted.misfit)
             && head.bend == u64::from(wanted.bend)
     }) else {
-        return Err(Fault::new(Layer::Frames, Cause::Mark, at));
+        return Err(Fault::found_by(Layer::Frames, Cause::Mark, at));
     };
     if head.readings > 240 {
-        return Err(Fault::new(Layer::Frames, Cause::Full, at));
+        return Err(Fault::found_by(Layer::Frames, Cause::Full, at));
     }
     let readings = head.readings as usize;
     if readings <= wanted.reach {
-        return Err(Fault::new(Layer::Frames, Cause::Short, at));
+        return Err(Fault::found_by(Layer::Frames, Cause::Short, at));
     }
     Ok(readings - wanted.reach)
 }
 
 // Whether a frame has the place that is waited for.
 fn check_place(place: Digits<'_, 4>, k: usize, at: usize) -> Result<(), Fault>
-    ensures { MatchResult result (λ _. Number place.entry.bytes.now k) (λ f. (f ≡ fault Layer.Frames Cause.Frame at) × (Number place.entry.bytes.now k → ⊥)) }
+    ensures { MatchResult result (λ _. Number place.entry.bytes.now k) (λ f. (f ≡ found_by Layer.Frames Cause.Frame at) × (Number place.entry.bytes.now k → ⊥)) }
 {
     if place.figure() != k as u64 {
         return Err(Fault::disorder(at));

@@ -13,7 +13,7 @@ use Rattle.objective.proofs.Searches.{off_none}
 use Rattle.archive.specs.File.{Figures}
 use Rattle.archive.specs.declared.figures.Head.{Head}
 use Rattle.reader.specs.declared.fault.Fault.{Fault}
-use Rattle.reader.specs.Faults.{Rank, rank, Before, Least, fault, layer_of}
+use Rattle.reader.specs.Faults.{Rank, rank, Before, Least, found_by, layer_of}
 use Rattle.verdict.specs.Wrong.{Wrong, setting, denominator, figure, minute, value, multiplier, column, stated, gap, no_reading, minute_before}
 use Rattle.verdict.proofs.Places.{fine_none, first_before, column_none}
 
@@ -101,7 +101,7 @@ module _ (k : KindsMeaning) (g : Figures) where
   clear_all before q c (gap e) = before q c (gap e) (omega arith)
 
   -- the first fault of the first phase that has one
-  pub least_here : (p l t : ℕ) (c : Cause) (f : Fault) → Clear k g p → Wrong k g (rank p l t) c → f ≡ fault (layer_of p) c l → ((m u : ℕ) (d : Cause) → Wrong k g (rank p m u) d → (m < l) ⊎ ((m ≡ l) × (u < t)) → ⊥) → Least (Wrong k g) f
+  pub least_here : (p l t : ℕ) (c : Cause) (f : Fault) → Clear k g p → Wrong k g (rank p l t) c → f ≡ found_by (layer_of p) c l → ((m u : ℕ) (d : Cause) → Wrong k g (rank p m u) d → (m < l) ⊎ ((m ≡ l) × (u < t)) → ⊥) → Least (Wrong k g) f
   least_here p l t c f clear has is first = record { at = rank p l t; cause = c; has = has; is = is; before = none }
     where
       none : (q : Rank) (d : Cause) → Wrong k g q d → Before q (rank p l t) → ⊥

@@ -11,7 +11,7 @@ use Rattle.reader.specs.declared.contents.Contents.{Contents}
 use Rattle.reader.specs.declared.contents.Wanted.{Wanted}
 use Rattle.reader.specs.declared.fault.Fault.{Fault}
 use Rattle.reader.specs.declared.fault.Layer.TheVariants as layer
-use Rattle.reader.specs.Faults.{Rank, rank, Before, Least, fault}
+use Rattle.reader.specs.Faults.{Rank, rank, Before, Least, found_by}
 use Rattle.reader.specs.Readable.{figures_of, InForm, Unreadable, ComesBack}
 use Rattle.verdict.specs.Lawful.{wanted_of, Lawful, Filed, NearTheBest}
 use Rattle.verdict.specs.Verdicts.{Faulty, steep, unreadable, wrong, Judges}
@@ -20,8 +20,8 @@ use Rattle.verdict.proofs.Passing.{no_wrong, lawful_in_form}
 
 module _ (k : KindsMeaning) (bs : List ℕ) where
   -- the kinds are turned down
-  pub steep_judged : (r : Refusal) → kinds_no k ≡ Some r → Judges k bs (Err (fault layer.Figures r.cause (0 + r.place)))
-  steep_judged r no_because = subst (λ (r : Refusal). Judges k bs (Err (fault layer.Figures r.cause (0 + r.place)))) (sym is) (record {
+  pub steep_judged : (r : Refusal) → kinds_no k ≡ Some r → Judges k bs (Err (found_by layer.Figures r.cause (0 + r.place)))
+  steep_judged r no_because = subst (λ (r : Refusal). Judges k bs (Err (found_by layer.Figures r.cause (0 + r.place)))) (sym is) (record {
     found = record { at = rank 0 0 0; cause = Steep; has = steep off; is = refl; before = λ q c has. none q };
     accepts = λ g filed. absurd (off filed.lawful.kinds);
   })

@@ -12,7 +12,7 @@ use Rattle.objective.specs.Objective.{KindsMeaning, columns_of, cost_of, floor_o
 use Rattle.archive.specs.File.{Figures}
 use Rattle.archive.specs.declared.figures.Head.{Head}
 use Rattle.reader.specs.declared.fault.Layer.TheVariants as layer
-use Rattle.reader.specs.Faults.{rank, Least, fault, layer_of}
+use Rattle.reader.specs.Faults.{rank, Least, found_by, layer_of}
 use Rattle.verdict.specs.Stages.{head_no}
 use Rattle.verdict.specs.Wrong.{Wrong, setting, denominator, figure, minute, value, multiplier, column, stated, gap, no_reading, minute_before, end_line}
 use Rattle.verdict.proofs.Places.{Found, RefusedAt, is_fine, last_before, first_before, fine_some, off_some, column_allowed, column_some}
@@ -22,13 +22,13 @@ pub settled : (h : Head) → head_no h ≡ None → Settled h
 settled h e = record { stiff = grind arith; allowance = grind arith; divides = grind arith }
 
 module _ (k : KindsMeaning) (g : Figures) where
-  pub head_stops : (r : Refusal) → head_no g.head ≡ Some r → Least (Wrong k g) (fault layer.Figures r.cause (1 + r.place))
+  pub head_stops : (r : Refusal) → head_no g.head ≡ Some r → Least (Wrong k g) (found_by layer.Figures r.cause (1 + r.place))
   head_stops r e = by_tests (is_stiffness (pos g.head.stiffness) && is_allowance (pos g.head.allowance)) (is_denominator (pos g.head.denominator)) refl refl
     where
-      by_tests : (s d : Bool) → (is_stiffness (pos g.head.stiffness) && is_allowance (pos g.head.allowance)) ≡ s → is_denominator (pos g.head.denominator) ≡ d → Least (Wrong k g) (fault layer.Figures r.cause (1 + r.place))
+      by_tests : (s d : Bool) → (is_stiffness (pos g.head.stiffness) && is_allowance (pos g.head.allowance)) ≡ s → is_denominator (pos g.head.denominator) ≡ d → Least (Wrong k g) (found_by layer.Figures r.cause (1 + r.place))
       by_tests false d es ed =
           let is : r ≡ at Setting 0 = grind arith in
-          least_here k g 3 1 0 Setting _ (clear_first k g) (setting es) (ap (λ (r : Refusal). fault layer.Figures r.cause (1 + r.place)) is) none
+          least_here k g 3 1 0 Setting _ (clear_first k g) (setting es) (ap (λ (r : Refusal). found_by layer.Figures r.cause (1 + r.place)) is) none
         where
           none : (m u : ℕ) (c : Cause) → Wrong k g (rank 3 m u) c → (m < 1) ⊎ ((m ≡ 1) × (u < 0)) → ⊥
           none m u c w (inl less) = first m u c w less
@@ -39,7 +39,7 @@ module _ (k : KindsMeaning) (g : Figures) where
           none m u c w (inr both) = omega (arith, both.1)
       by_tests true false es ed =
           let is : r ≡ at Denominator 0 = grind arith in
-          least_here k g 3 1 1 Denominator _ (clear_first k g) (denominator ed) (ap (λ (r : Refusal). fault layer.Figures r.cause (1 + r.place)) is) none
+          least_here k g 3 1 1 Denominator _ (clear_first k g) (denominator ed) (ap (λ (r : Refusal). found_by layer.Figures r.cause (1 + r.place)) is) none
         where
           none : (m u : ℕ) (c : Cause) → Wrong k g (rank 3 m u) c → (m < 1) ⊎ ((m ≡ 1) × (u < 1)) → ⊥
           none m u c (setting x) o = both_ways _ x es
@@ -47,7 +47,7 @@ module _ (k : KindsMeaning) (g : Figures) where
           none m u c (denominator x) (inr both) = omega (arith, both.1)
       by_tests true true es ed = absurd (let z : ◌≡◌ {A = ℕ} 0 1 = grind arith in omega arith)
 
-  pub readings_stop : Clear k g 4 → length g.readings ≤ 240 → (r : Refusal) → readings_no g.readings ≡ Some r → Least (Wrong k g) (fault layer.Figures r.cause (2 + r.place))
+  pub readings_stop : Clear k g 4 → length g.readings ≤ 240 → (r : Refusal) → readings_no g.readings ≡ Some r → Least (Wrong k g) (found_by layer.Figures r.cause (2 + r.place))
   readings_stop clear few r e = by_test (has_figures (get_or g.readings j no_reading)) refl
     where
       a : RefusedAt None g.readings 0 r
@@ -61,10 +61,10 @@ module _ (k : KindsMeaning) (g : Figures) where
           let both = and_parts _ _ (a.found.stops.before i h) in
           (both.0, subst (λ (last : Option ℤ). may_come last (get_or g.readings i no_reading).minute ≡ true) (first_before g.readings i) both.1)
 
-      is : (b : Bool) → has_figures (get_or g.readings j no_reading) ≡ b → fault layer.Figures r.cause (2 + r.place) ≡ fault layer.Figures (cond b Minute Figure) (j + 2)
-      is b t = ap₂ (fault layer.Figures) (a.cause ∙ ap (λ (b : Bool). cond b Minute Figure) t) (omega (arith, a.found.is))
+      is : (b : Bool) → has_figures (get_or g.readings j no_reading) ≡ b → found_by layer.Figures r.cause (2 + r.place) ≡ found_by layer.Figures (cond b Minute Figure) (j + 2)
+      is b t = ap₂ (found_by layer.Figures) (a.cause ∙ ap (λ (b : Bool). cond b Minute Figure) t) (omega (arith, a.found.is))
 
-      by_test : (b : Bool) → has_figures (get_or g.readings j no_reading) ≡ b → Least (Wrong k g) (fault layer.Figures r.cause (2 + r.place))
+      by_test : (b : Bool) → has_figures (get_or g.readings j no_reading) ≡ b → Least (Wrong k g) (found_by layer.Figures r.cause (2 + r.place))
       by_test false t = least_here k g 4 (j + 2) 0 Figure _ clear (figure j a.found.stops.within t) (is false t) none
         where
           none : (m u : ℕ) (c : Cause) → Wrong k g (rank 4 m u) c → (m < j + 2) ⊎ ((m ≡ j + 2) × (u < 0)) → ⊥
@@ -86,9 +86,9 @@ module _ (k : KindsMeaning) (g : Figures) where
           none m u c (minute i h x) (inr both) = omega (arith, both.1)
 
   -- a phase of faults of one cause, each at its line
-  least_found : (p above : ℕ) (c : Cause) (holds : ℕ → Bool) (n found : ℕ) (line : ℕ → ℕ) → Clear k g p → Found holds n 0 found → ((j : ℕ) → line j ≡ above + 2 + j) → ((j : ℕ) → j < n → holds j ≡ false → Wrong k g (rank p (line j) 0) c) → ((m u : ℕ) (d : Cause) → Wrong k g (rank p m u) d → (j : ℕ) × (m ≡ line j) × (u ≡ 0) × (holds j ≡ false)) → Least (Wrong k g) (fault (layer_of p) c (above + 2 + found))
+  least_found : (p above : ℕ) (c : Cause) (holds : ℕ → Bool) (n found : ℕ) (line : ℕ → ℕ) → Clear k g p → Found holds n 0 found → ((j : ℕ) → line j ≡ above + 2 + j) → ((j : ℕ) → j < n → holds j ≡ false → Wrong k g (rank p (line j) 0) c) → ((m u : ℕ) (d : Cause) → Wrong k g (rank p m u) d → (j : ℕ) × (m ≡ line j) × (u ≡ 0) × (holds j ≡ false)) → Least (Wrong k g) (found_by (layer_of p) c (above + 2 + found))
   least_found p above c holds n found line clear s lines there only =
-      least_here k g p (line s.place) 0 c _ clear (there s.place s.stops.within s.stops.fails) (ap (fault (layer_of p) c) (omega (arith, s.is, lines s.place))) none
+      least_here k g p (line s.place) 0 c _ clear (there s.place s.stops.within s.stops.fails) (ap (found_by (layer_of p) c) (omega (arith, s.is, lines s.place))) none
     where
       none : (m u : ℕ) (d : Cause) → Wrong k g (rank p m u) d → (m < line s.place) ⊎ ((m ≡ line s.place) × (u < 0)) → ⊥
       none m u d w (inl less) =
@@ -96,28 +96,28 @@ module _ (k : KindsMeaning) (g : Figures) where
           both_ways _ o.3 (s.stops.before o.0 (omega (arith, o.1, lines o.0, lines s.place)))
       none m u d w (inr both) = omega (arith, both.1)
 
-  pub entries_stop : Clear k g 5 → (found : ℕ) → first_off is_value g.entries ≡ Some found → Least (Wrong k g) (fault layer.Figures Value (length g.readings + 2 + found))
+  pub entries_stop : Clear k g 5 → (found : ℕ) → first_off is_value g.entries ≡ Some found → Least (Wrong k g) (found_by layer.Figures Value (length g.readings + 2 + found))
   entries_stop clear found e =
       least_found 5 (length g.readings) Value (λ j. is_value (get_or g.entries j (pos 0))) (length g.entries) found (λ j. length g.readings + j + 2) clear (off_some is_value (pos 0) 0 g.entries found e) (λ j. omega arith) value only
     where
       only : (m u : ℕ) (d : Cause) → Wrong k g (rank 5 m u) d → (j : ℕ) × (m ≡ length g.readings + j + 2) × (u ≡ 0) × (is_value (get_or g.entries j (pos 0)) ≡ false)
       only m u d (value j h x) = (j, refl, refl, x)
 
-  pub multipliers_stop : Clear k g 6 → (found : ℕ) → first_off (k.bend.allows g.head.stiffness g.head.denominator) g.multipliers ≡ Some found → Least (Wrong k g) (fault layer.Figures Multiplier (length g.readings + length g.entries + 2 + found))
+  pub multipliers_stop : Clear k g 6 → (found : ℕ) → first_off (k.bend.allows g.head.stiffness g.head.denominator) g.multipliers ≡ Some found → Least (Wrong k g) (found_by layer.Figures Multiplier (length g.readings + length g.entries + 2 + found))
   multipliers_stop clear found e =
       least_found 6 (length g.readings + length g.entries) Multiplier (λ j. k.bend.allows g.head.stiffness g.head.denominator (get_or g.multipliers j (pos 0))) (length g.multipliers) found (λ j. length g.readings + length g.entries + j + 2) clear (off_some _ (pos 0) 0 g.multipliers found e) (λ j. omega arith) multiplier only
     where
       only : (m u : ℕ) (d : Cause) → Wrong k g (rank 6 m u) d → (j : ℕ) × (m ≡ length g.readings + length g.entries + j + 2) × (u ≡ 0) × (k.bend.allows g.head.stiffness g.head.denominator (get_or g.multipliers j (pos 0)) ≡ false)
       only m u d (multiplier j h x) = (j, refl, refl, x)
 
-  pub columns_stop : Clear k g 7 → length (columns_of k g.readings g.multipliers) ≡ length g.readings → (found : ℕ) → first_column_off k.misfit g.head.denominator 0 (columns_of k g.readings g.multipliers) g.readings ≡ Some found → Least (Wrong k g) (fault layer.Figures Column (2 + found))
+  pub columns_stop : Clear k g 7 → length (columns_of k g.readings g.multipliers) ≡ length g.readings → (found : ℕ) → first_column_off k.misfit g.head.denominator 0 (columns_of k g.readings g.multipliers) g.readings ≡ Some found → Least (Wrong k g) (found_by layer.Figures Column (2 + found))
   columns_stop clear same found e =
       least_found 7 0 Column (column_allowed k.misfit g.head.denominator (columns_of k g.readings g.multipliers) g.readings) (length g.readings) found (λ j. j + 2) clear (column_some k.misfit g.head.denominator 0 _ g.readings found same e) (λ j. omega arith) column only
     where
       only : (m u : ℕ) (d : Cause) → Wrong k g (rank 7 m u) d → (j : ℕ) × (m ≡ j + 2) × (u ≡ 0) × (column_allowed k.misfit g.head.denominator (columns_of k g.readings g.multipliers) g.readings j ≡ false)
       only m u d (column j h x) = (j, refl, refl, x)
 
-  pub stated_stops : Clear k g 8 → ((g.cost ≡ cost_of k g.head.stiffness g.readings g.entries) × (g.floor ≡ floor_of k g.readings g.multipliers) → ⊥) → Least (Wrong k g) (fault layer.Figures Stated (end_line g))
+  pub stated_stops : Clear k g 8 → ((g.cost ≡ cost_of k g.head.stiffness g.readings g.entries) × (g.floor ≡ floor_of k g.readings g.multipliers) → ⊥) → Least (Wrong k g) (found_by layer.Figures Stated (end_line g))
   stated_stops clear other = least_here k g 8 (end_line g) 0 Stated _ clear (stated other) refl none
     where
       none : (m u : ℕ) (d : Cause) → Wrong k g (rank 8 m u) d → (m < end_line g) ⊎ ((m ≡ end_line g) × (u < 0)) → ⊥
@@ -125,7 +125,7 @@ module _ (k : KindsMeaning) (g : Figures) where
       none m u d (stated x) (inl less) = omega arith
       none m u d (gap x) (inl less) = omega arith
 
-  pub gap_stops : Clear k g 8 → g.cost ≡ cost_of k g.head.stiffness g.readings g.entries → g.floor ≡ floor_of k g.readings g.multipliers → within g.head.denominator g.cost g.floor g.head.allowance ≡ false → Least (Wrong k g) (fault layer.Figures Gap (end_line g))
+  pub gap_stops : Clear k g 8 → g.cost ≡ cost_of k g.head.stiffness g.readings g.entries → g.floor ≡ floor_of k g.readings g.multipliers → within g.head.denominator g.cost g.floor g.head.allowance ≡ false → Least (Wrong k g) (found_by layer.Figures Gap (end_line g))
   gap_stops clear cost floor wide = least_here k g 8 (end_line g) 1 Gap _ clear (gap wide) refl none
     where
       none : (m u : ℕ) (d : Cause) → Wrong k g (rank 8 m u) d → (m < end_line g) ⊎ ((m ≡ end_line g) × (u < 1)) → ⊥

@@ -17,7 +17,7 @@ use Rattle.archive.specs.File.{Figures}
 use Rattle.reader.specs.declared.contents.Contents.{Contents}
 use Rattle.reader.specs.declared.fault.Fault.{Fault}
 use Rattle.reader.specs.declared.fault.Layer.TheVariants as layer
-use Rattle.reader.specs.Faults.{Rank, Least, fault}
+use Rattle.reader.specs.Faults.{Rank, Least, found_by}
 use Rattle.reader.specs.Readable.{figures_of}
 use Rattle.verdict.specs.Stages.{head_no, Ready, Tabled, Floored}
 use Rattle.verdict.specs.Wrong.{lines_of, Wrong}
@@ -42,8 +42,8 @@ stopped_at None b r e = inr (refl, e)
 stopped_at (Some x) b r e = inl e
 
 -- a fault as a refusal tells it
-told_at : (Has : Rank → Cause → Type 0) (r : Refusal) (c : Cause) (found line above : ℕ) → r ≡ at c found → line ≡ above → Least Has (fault layer.Figures c (above + found)) → Least Has (fault layer.Figures r.cause (line + r.place))
-told_at Has r c found line above is same = subst (Least Has) (sym (ap₂ (fault layer.Figures) (ap (λ (r : Refusal). r.cause) is) (ap₂ (λ (a b : ℕ). a + b) same (ap (λ (r : Refusal). r.place) is))))
+told_at : (Has : Rank → Cause → Type 0) (r : Refusal) (c : Cause) (found line above : ℕ) → r ≡ at c found → line ≡ above → Least Has (found_by layer.Figures c (above + found)) → Least Has (found_by layer.Figures r.cause (line + r.place))
+told_at Has r c found line above is same = subst (Least Has) (sym (ap₂ (found_by layer.Figures) (ap (λ (r : Refusal). r.cause) is) (ap₂ (λ (a b : ℕ). a + b) same (ap (λ (r : Refusal). r.place) is))))
 
 columns_long : (k : KindsMeaning) → KindsLaws k → (h : ℕ) (xs : List Reading) (d : ℕ) (ms : List ℤ) → Floorable k (pos h) xs (pos d) ms 240 → length (columns_of k xs ms) ≡ length xs
 columns_long k law h xs d ms f = (columned k law.roughness (pos h) xs (pos d) ms 240 f (multipliers_most k law.bend (pos h) xs (pos d) ms 240 f)).long
@@ -85,7 +85,7 @@ module _ (k : KindsMeaning) (g : Figures) (ready : Ready k g) where
   pub clear_ready : Clear k g 5
   clear_ready = clear_readings k g (clear_head k g set) ready.given.noted
 
-  pub table_stops : (r : Refusal) → weigh_table_no k (pos g.head.stiffness) g.readings g.entries 240 ≡ Some r → Least (Wrong k g) (fault layer.Figures r.cause (length g.readings + 2 + r.place))
+  pub table_stops : (r : Refusal) → weigh_table_no k (pos g.head.stiffness) g.readings g.entries 240 ≡ Some r → Least (Wrong k g) (found_by layer.Figures r.cause (length g.readings + 2 + r.place))
   table_stops r e =
       let long : unless (eqb (length g.entries) (length g.readings) && leb (length g.readings - told_reach k.roughness) 240) (at Length 0) ≡ None = grind (arith, ready.form.few, ready.form.fitting.count, ready.form.fitting.table) in
       let own = last (table_no k (length g.readings) g.entries 240) r (past _ _ r ready.given.noted (past _ _ r stiff e)) in
@@ -108,7 +108,7 @@ module _ (k : KindsMeaning) (g : Figures) (ready : Ready k g) where
       let own = last (multipliers_no k g.head.stiffness (length g.readings) (pos g.head.denominator) g.multipliers 240) r (past _ _ r ready.given.noted (past _ _ r stiff e)) in
       place_found Multiplier _ r (last _ r (past _ _ r denominator_fine (past _ _ r long (past _ _ r short (past _ _ r ready.kinds own)))))
 
-  pub slopes_stop : KindsLaws k → first_off is_value g.entries ≡ None → (r : Refusal) (f : Fault) → (r.cause ≡ Multiplier → f ≡ fault layer.Figures Multiplier ((lines_of g).multipliers + r.place)) → (r.cause ≡ Column → f ≡ fault layer.Figures Column ((lines_of g).readings + r.place)) → weigh_multipliers_no k (pos g.head.stiffness) g.readings (pos g.head.denominator) g.multipliers 240 ≡ Some r → Least (Wrong k g) f
+  pub slopes_stop : KindsLaws k → first_off is_value g.entries ≡ None → (r : Refusal) (f : Fault) → (r.cause ≡ Multiplier → f ≡ found_by layer.Figures Multiplier ((lines_of g).multipliers + r.place)) → (r.cause ≡ Column → f ≡ found_by layer.Figures Column ((lines_of g).readings + r.place)) → weigh_multipliers_no k (pos g.head.stiffness) g.readings (pos g.head.denominator) g.multipliers 240 ≡ Some r → Least (Wrong k g) f
   slopes_stop law values r f multiplier column e = ⊎_elim at_multiplier at_column (stopped_at before _ r e)
     where
       before : Option Refusal
@@ -117,9 +117,9 @@ module _ (k : KindsMeaning) (g : Figures) (ready : Ready k g) where
       columns : List ℤ
       columns = columns_of k g.readings g.multipliers
 
-      told : (c : Cause) (found line : ℕ) → r ≡ at c found → (r.cause ≡ c → f ≡ fault layer.Figures c (line + r.place)) → Least (Wrong k g) (fault layer.Figures c (line + found)) → Least (Wrong k g) f
+      told : (c : Cause) (found line : ℕ) → r ≡ at c found → (r.cause ≡ c → f ≡ found_by layer.Figures c (line + r.place)) → Least (Wrong k g) (found_by layer.Figures c (line + found)) → Least (Wrong k g) f
       told c found line is says least =
-          subst (Least (Wrong k g)) (sym (says (ap (λ (r : Refusal). r.cause) is) ∙ ap (λ (r : Refusal). fault layer.Figures c (line + r.place)) is)) least
+          subst (Least (Wrong k g)) (sym (says (ap (λ (r : Refusal). r.cause) is) ∙ ap (λ (r : Refusal). found_by layer.Figures c (line + r.place)) is)) least
 
       at_multiplier : before ≡ Some r → Least (Wrong k g) f
       at_multiplier is =

@@ -18,7 +18,7 @@ use Rattle.archive.specs.declared.figures.Head.{Head}
 use Rattle.archive.specs.File.{Figures}
 use Rattle.reader.specs.declared.fault.Fault.{Fault}
 use Rattle.reader.specs.declared.fault.Layer.TheVariants as layer
-use Rattle.reader.specs.Faults.{fault}
+use Rattle.reader.specs.Faults.{found_by}
 use Rattle.reader.specs.Readable.{InForm}
 use Rattle.verdict.specs.Lawful.{wanted_of}
 use Rattle.verdict.specs.Wrong.{end_line}
@@ -54,5 +54,5 @@ pub record EndFine (g : Figures) (cost : ℕ) (floor : ℤ) : Type 0 where
   pub gap : within g.head.denominator g.cost g.floor g.head.allowance ≡ true
 
 pub data EndOff (g : Figures) (cost : ℕ) (floor : ℤ) : Fault → Type 0 where
-  unstated : ((g.cost ≡ cost) × (g.floor ≡ floor) → ⊥) → EndOff g cost floor (fault layer.Figures Stated (end_line g))
-  wide : g.cost ≡ cost → g.floor ≡ floor → within g.head.denominator g.cost g.floor g.head.allowance ≡ false → EndOff g cost floor (fault layer.Figures Gap (end_line g))
+  unstated : ((g.cost ≡ cost) × (g.floor ≡ floor) → ⊥) → EndOff g cost floor (found_by layer.Figures Stated (end_line g))
+  wide : g.cost ≡ cost → g.floor ≡ floor → within g.head.denominator g.cost g.floor g.head.allowance ≡ false → EndOff g cost floor (found_by layer.Figures Gap (end_line g))

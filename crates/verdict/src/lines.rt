@@ -1,6 +1,6 @@
 // The lines in which the parts of a file begin.
 ghost use Rattle.std.specs.Prelude.{◌≡◌, ◌+◌};
-ghost use Rattle.reader.specs.Faults.{fault};
+ghost use Rattle.reader.specs.Faults.{found_by};
 ghost use Rattle.reader.specs.Readable.{figures_of};
 ghost use Rattle.verdict.specs.Wrong.{lines_of};
 
@@ -40,9 +40,9 @@ impl Lines {
 // A refusal of kinds or figures as a fault, with its place counted from a line. The kinds stand in no line.
 // Kept so: no `From`, which has no room for the line.
 pub(crate) fn fault_from(line: usize, refusal: Refusal) -> Fault
-    ensures { result ≡ fault Layer.Figures refusal.cause (line + refusal.place) }
+    ensures { result ≡ found_by Layer.Figures refusal.cause (line + refusal.place) }
 {
-    Fault::new(
+    Fault::found_by(
         Layer::Figures,
         refusal.cause,
         line.saturating_add(refusal.place),

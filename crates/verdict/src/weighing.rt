@@ -3,7 +3,7 @@ ghost use Rattle.std.specs.Prelude.{◌≡◌, ◌+◌, None, MatchResult};
 ghost use Rattle.kinds.specs.declared.refusal.Cause.TheVariants.{Multiplier, Column};
 ghost use Rattle.kinds.specs.Checks.{first_off};
 ghost use Rattle.objective.specs.Checks.{is_value};
-ghost use Rattle.reader.specs.Faults.{fault, Least};
+ghost use Rattle.reader.specs.Faults.{found_by, Least};
 ghost use Rattle.reader.specs.Readable.{figures_of};
 ghost use Rattle.verdict.specs.Stages.{Ready, Tabled, Floored};
 ghost use Rattle.verdict.specs.Wrong.{lines_of, Wrong};
@@ -38,8 +38,8 @@ pub(crate) fn weigh_entries<R: Roughness, M: Penalty, B: Penalty>(
 
 // A refusal of multipliers, at its line. A column stands at its reading.
 fn slope_fault(contents: &Contents, refusal: Refusal) -> Fault
-    ensures multiplier { let lines = lines_of (figures_of contents.now) in refusal.cause ≡ Multiplier → result ≡ fault Layer.Figures Multiplier (lines.multipliers + refusal.place) }
-    ensures column { let lines = lines_of (figures_of contents.now) in refusal.cause ≡ Column → result ≡ fault Layer.Figures Column (lines.readings + refusal.place) }
+    ensures multiplier { let lines = lines_of (figures_of contents.now) in refusal.cause ≡ Multiplier → result ≡ found_by Layer.Figures Multiplier (lines.multipliers + refusal.place) }
+    ensures column { let lines = lines_of (figures_of contents.now) in refusal.cause ≡ Column → result ≡ found_by Layer.Figures Column (lines.readings + refusal.place) }
 {
     let lines = Lines::of(contents);
     match refusal.cause {

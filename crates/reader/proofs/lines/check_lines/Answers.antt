@@ -21,7 +21,7 @@ loop-line-preserved c =
 pub returns-then-lines-eq0 : goal.returns-then-lines-eq0
 returns-then-lines-eq0 c =
     let n : Next c.loop-line.lines c.next_line.new.self (Ok None) = rw c.in_default.is at c.in_ok-_line.ensures in
-    upto_empty c.args.file.now c.loop-line.lines.rest.now _ c.loop-line.invariant n.0 (ap (λ l. l.taken) (sym n.1) ∙ c.if-lines-eq0.true) _ c.new.ensures
+    upto_empty c.args.file.now c.loop-line.lines.rest.now _ c.loop-line.invariant n.0 (ap (λ l. l.taken) (sym n.1) ∙ c.if-lines-eq0.true) _ c.found_by.ensures
 
 pub returns : goal.returns
 returns c =

@@ -2,7 +2,7 @@ use Rattle.std.proofs.Common.{Ok, Err, sym, ap, ◌∙◌, subst}
 use Rattle.std.proofs.lemmas.Result.{err_from_is_err_and}
 use Rattle.kinds.specs.declared.refusal.Cause.TheVariants.{Frame}
 use Rattle.reader.specs.declared.fault.Layer.TheVariants as layer
-use Rattle.reader.specs.Faults.{fault}
+use Rattle.reader.specs.Faults.{found_by}
 use Rattle.reader.specs.Frames.{InTurn}
 use Rattle.reader.specs.Lines.{pieces}
 use Rattle.reader.specs.Shapes.{frame_text}
@@ -21,7 +21,7 @@ returns-in_err-frame c =
     let t = turned c.args.file.now c.loop-line.lines c.next_line.new.self c.in_ok-line.field-0 c.in-Some.line c.loop-line.invariant.0 c.in_ok-line.ensures c.in-Some.is in
     let p = err_from_is_err_and c.from_residual-in_err-frame.result c.from_residual-in_err-frame.ensures.1 in
     rw (p.1, p.2)
-    (odd c.args.wanted ls c.loop-line.lines.taken c.loop-line.machine c.loop-line.invariant.1 _ (h.0 ∙ ap (fault layer.Frames Frame) t.counts) (λ o. h.1 _ (subst (InTurn c.loop-line.machine.stage) t.here o)))
+    (odd c.args.wanted ls c.loop-line.lines.taken c.loop-line.machine c.loop-line.invariant.1 _ (h.0 ∙ ap (found_by layer.Frames Frame) t.counts) (λ o. h.1 _ (subst (InTurn c.loop-line.machine.stage) t.here o)))
 
 pub loop-line-preserved : goal.loop-line-preserved
 loop-line-preserved c =

@@ -3,7 +3,7 @@ use Rattle.std.proofs.lemmas.Result.{err_from_is_err_and}
 use Rattle.objective.specs.Checks.{kinds_no}
 use Rattle.objective.specs.Objective.{KindsLaws, three}
 use Rattle.reader.specs.declared.fault.Layer.TheVariants as layer
-use Rattle.reader.specs.Faults.{fault}
+use Rattle.reader.specs.Faults.{found_by}
 use Rattle.reader.specs.Readable.{figures_of}
 use Rattle.reader.proofs.Same.{no_unreadable}
 use Rattle.verdict.specs.Verdicts.{Judges}
@@ -17,7 +17,7 @@ returns-in_err-map_err g c =
     let p = err_from_is_err_and c.from_residual.result c.from_residual.ensures.1 in
     rw (p.1, p.2)
     (refused_on _ (λ f. Judges k c.args.file.now (Err f)) (kinds_no k) tt _ c.check_kinds.result c.map_err.result c.check_kinds.ensures c.map_err.ensures.cases c.in_err-map_err.was (λ e f off told.
-    let is : f ≡ fault layer.Figures e.cause (0 + e.place) = search rules in
+    let is : f ≡ found_by layer.Figures e.cause (0 + e.place) = search rules in
     rw is (steep_judged k c.args.file.now e off)))
 
 pub returns-in_err-contents : goal.returns-in_err-contents

@@ -5,7 +5,7 @@ use Rattle.kinds.specs.Checks.{answer}
 use Rattle.objective.specs.Checks.{readings_no}
 use Rattle.objective.specs.Objective.{KindsMeaning}
 use Rattle.reader.specs.declared.fault.Layer.TheVariants as layer
-use Rattle.reader.specs.Faults.{fault, Least}
+use Rattle.reader.specs.Faults.{found_by, Least}
 use Rattle.reader.specs.Readable.{figures_of}
 use Rattle.verdict.specs.Stages.{head_no, InOrder}
 use Rattle.verdict.specs.Wrong.{lines_of, Wrong}
@@ -21,7 +21,7 @@ returns-in_err-map_err c =
     let p = err_from_is_err_and c.from_residual.result c.from_residual.ensures.1 in
     rw (p.1, p.2)
     (λ k. refused_on _ (Least (Wrong k g)) (head_no g.head) tt _ c.check_head.result c.map_err.result c.check_head.ensures c.map_err.ensures.cases c.in_err-map_err.was (λ e f off told.
-    let is : f ≡ fault layer.Figures e.cause ((lines_of g).head + e.place) = search rules in
+    let is : f ≡ found_by layer.Figures e.cause ((lines_of g).head + e.place) = search rules in
     rw is (head_stops k g e off)))
 
 pub returns : goal.returns
@@ -31,5 +31,5 @@ returns c =
     let head : head_no g.head ≡ None = passed_on _ (head_no g.head) tt _ c.check_head.result c.map_err.result c.check_head.ensures c.map_err.ensures.cases c.in_ok-map_err.was in
     let given : c.check_readings.result ≡ answer (readings_no g.readings) tt = c.check_readings.ensures ∙ ap (λ (xs : List Reading). answer (readings_no xs) tt) c.readings.ensures in
     faulted _ (λ _. InOrder g) (λ f. (k : KindsMeaning) → Least (Wrong k g) f) (readings_no g.readings) tt c.check_readings.result c.map_err-2.result given c.map_err-2.ensures.cases (λ noted. record { head = head; noted = noted }) (λ e f off told.
-    let is : f ≡ fault layer.Figures e.cause ((lines_of g).readings + e.place) = search rules in
+    let is : f ≡ found_by layer.Figures e.cause ((lines_of g).readings + e.place) = search rules in
     rw is (λ k. readings_stop k g (clear_head k g (settled g.head head)) (omega (arith, readings_held contents, contents.few)) e off))

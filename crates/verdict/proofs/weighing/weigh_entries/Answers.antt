@@ -4,7 +4,7 @@ use Rattle.kinds.specs.Checks.{answer}
 use Rattle.objective.specs.Checks.{weigh_table_no}
 use Rattle.objective.specs.Objective.{three, cost_of}
 use Rattle.reader.specs.declared.fault.Layer.TheVariants as layer
-use Rattle.reader.specs.Faults.{Least, fault}
+use Rattle.reader.specs.Faults.{Least, found_by}
 use Rattle.reader.specs.Readable.{figures_of}
 use Rattle.verdict.specs.Stages.{Tabled}
 use Rattle.verdict.specs.Wrong.{lines_of, Wrong}
@@ -20,5 +20,5 @@ returns g c =
     let figures = figures_of contents in
     let answered = table_handed (λ (h : ℤ) (xs : List Reading) (vs : List ℤ). c.weigh_table.result ≡ answer (weigh_table_no k h xs vs 240) (cost_of k (unsigned_abs h) xs vs)) contents c.requires.given.head c.readings.ensures c.entries.ensures c.weigh_table.ensures.answered in
     faulted _ (Tabled k figures) (Least (Wrong k figures)) _ _ c.weigh_table.result c.map_err.result answered c.map_err.ensures.cases (tabled k figures c.requires) (λ e f off told.
-    let is : f ≡ fault layer.Figures e.cause ((lines_of figures).entries + e.place) = search rules in
+    let is : f ≡ found_by layer.Figures e.cause ((lines_of figures).entries + e.place) = search rules in
     rw is (table_stops k figures c.requires e off))

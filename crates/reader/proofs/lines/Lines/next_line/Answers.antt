@@ -9,7 +9,7 @@ returns-then-end-self c =
     let e = c.leading_digits-end.result in
     let found = c.leading_digits-end.ensures in
     let some : 0 < length s = grind arith in (
-      c.new.ensures,
+      c.found_by.ensures,
       elim c.then-end-self.branch [
         | then-end-self-via-then-end-self w ↦ start_open s e found.within found.digits w.if-end-self.true some
         | then-end-self-via-else-end-self+then-self-end-ne10 w ↦
