@@ -5,10 +5,10 @@
 --     field_same              no two numbers have one field
 --     number_of               digits are the field of a number
 --     number_is               the number of a field that is read
---     put_more, put_all       a loop that writes the last digit first, for a place that is then turned round
-use Rattle.std.proofs.Common.{◌≡◌, ℕ, zero, suc, ◌+◌, ◌-◌, ◌*◌, ◌/◌, ◌%◌, ◌^◌, ◌<◌, ◌≤◌, true, List, [], ◌∷◌, ◌++◌, length, get_or, take, reverse, set, sym, refl, ap, ◌∙◌, subst, ⊎_elim, append_assoc, pow-suc, add-one, arith}
+--     put_more, put_all       a loop that writes from the last digit to the first
+use Rattle.std.proofs.Common.{◌≡◌, ℕ, zero, suc, ◌+◌, ◌-◌, ◌*◌, ◌/◌, ◌%◌, ◌^◌, ◌<◌, ◌≤◌, true, List, [], ◌∷◌, ◌++◌, length, get_or, take, drop, set, sym, refl, ap, ◌∙◌, subst, ⊎_elim, append_assoc, pow-suc, add-one, arith}
 use native.Mathlib.Nat.{pow-le-pow_right}
-use Rattle.std.proofs.lemmas.List.{same_from_push, length_push, take_more, take_more_set, take_all, reverse-append}
+use Rattle.std.proofs.lemmas.List.{same_from_push, length_push, take_more, take_all, drop-set}
 use Rattle.std.proofs.ByRecursion.{All-get_or, All-push}
 use Rattle.std.proofs.lemmas.Bool.{cases_lt}
 use Rattle.digits.specs.Fields.{digit, is_digit, Digits, Fits, field, Number}
@@ -89,11 +89,11 @@ number_is w s x y e f r =
 pub number_written : (w : ℕ) (s : List ℕ) (x : ℕ) → length s ≡ w → Number s x → Fits w x × (field w x ≡ s)
 number_written w s x size r = (subst (λ n. Fits n x) size r.fits, ap (λ n. field n x) (sym size) ∙ r.written)
 
-pub put_more : (out : List ℕ) (k w y d : ℕ) → k < length out → d ≡ digit (y % 16) → field w (y / 16) ++ reverse (take (k + 1) (set out k d)) ≡ field (w + 1) y ++ reverse (take k out)
+pub put_more : (out : List ℕ) (i y d : ℕ) → i < length out → d ≡ digit (y % 16) → field i (y / 16) ++ drop i (set out i d) ≡ field (i + 1) y ++ drop (i + 1) out
 unfolding field
-put_more out k w y d h e = rw (take_more_set out k d h, reverse-append, e, add-one) (sym (append_assoc (field w (y / 16)) (digit (y % 16) ∷ []) (reverse (take k out))))
+put_more out i y d h e = rw (drop-set out i d h, e, add-one) (sym (append_assoc (field i (y / 16)) (digit (y % 16) ∷ []) (drop (suc i) out)))
 
-pub put_all : (out xs : List ℕ) (k w y : ℕ) → length out ≤ k → w ≤ 0 → field w y ++ reverse (take k out) ≡ xs → reverse out ≡ xs
+pub put_all : (out xs : List ℕ) (i y : ℕ) → i ≤ 0 → field i y ++ drop i out ≡ xs → out ≡ xs
 unfolding field
-put_all out xs k zero y h z e = ap reverse (sym (take_all k out h)) ∙ e
-put_all out xs k (suc w) y h z e = absurd (omega arith)
+put_all out xs zero y h e = e
+put_all out xs (suc i) y h e = absurd (omega arith)

@@ -32,17 +32,17 @@ fn value_of(byte: u8) -> u64
     (wide % 16 + wide / 64 * 9) % 16
 }
 
-// Fills `place` with the last digits of `figure`, as many as it holds, with zeros in front. They are written last digit
-// first, and then turned round.
+// Fills `place` with the last digits of `figure`, as many as it holds, with zeros in front.
 pub fn write_field(place: &mut [u8], figure: u64)
     ensures { place.new ≡ field (length place.old) figure }
 {
+    // Kept so: after a loop over `iter_mut().rev()` nothing is known of the slots, and to write them front to back and then
+    // turn the place round took a third longer.
     let mut rest = figure;
-    for slot in place.iter_mut() {
-        *slot = digit_of((rest % 16) as u8);
+    for at in (0..place.len()).rev() {
+        place[at] = digit_of((rest % 16) as u8);
         rest /= 16;
     }
-    place.reverse();
 }
 
 // The number that up to 16 digits write, for bytes that are known to be digits.

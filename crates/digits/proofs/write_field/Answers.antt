@@ -1,19 +1,17 @@
-use Rattle.std.proofs.Common.{◌≡◌, ◌+◌, ◌-◌, length, ap, ◌∙◌, arith, length-set, set}
+use Rattle.std.proofs.Common.{◌≡◌, ◌+◌, ◌-◌, length, sym, ap, ◌∙◌, append-nil, arith, length-set}
+use Rattle.std.proofs.lemmas.List.{drop_all}
 use Rattle.digits.specs.Fields.{field}
 use Rattle.digits.proofs.Fields.{put_more, put_all}
 use Rattle.digits.proofs.write_field.Goals as goal
 
-pub loop-slot-preserved : goal.loop-slot-preserved
-loop-slot-preserved c =
-    let place = c.loop-slot.place in
-    let k = c.loop-slot.slot-index in
-    let same : length (set place k c.digit_of.result) ≡ length place = length-set place k c.digit_of.result in
-    let less : length place - (k + 1) + 1 ≡ length place - k = omega arith in
-    let step = put_more place k (length place - (k + 1)) c.loop-slot.rest c.digit_of.result (omega arith) c.digit_of.ensures in
-    rw same ((rw less at step) ∙ c.loop-slot.invariant)
+pub loop-at-init : goal.loop-at-init
+loop-at-init c = rw (drop_all (length c.args.place.now) c.args.place.now (omega arith)) (append-nil (field (length c.args.place.now) c.args.figure))
+
+pub loop-at-preserved : goal.loop-at-preserved
+loop-at-preserved c =
+    let next : c.loop-at.at - 1 + 1 ≡ c.loop-at.at = omega arith in
+    let step = put_more c.loop-at.place (c.loop-at.at - 1) c.loop-at.rest c.digit_of.result (omega arith) c.digit_of.ensures in
+    (rw next at step) ∙ c.loop-at.invariant ∙ ap (λ n. field n c.args.figure) (sym (length-set c.loop-at.place (c.loop-at.at - 1) c.digit_of.result))
 
 pub returns : goal.returns
-returns c =
-    c.reverse.ensures.after
-    ∙ put_all c.loop-slot.place _ c.loop-slot.slot-index _ c.loop-slot.rest (omega arith) (omega arith) c.loop-slot.invariant
-    ∙ ap (λ n. field n c.args.figure) c.loop-slot.auto.place
+returns c = put_all c.loop-at.place _ c.loop-at.at c.loop-at.rest (omega arith) c.loop-at.invariant ∙ ap (λ n. field n c.args.figure) c.loop-at.auto.place

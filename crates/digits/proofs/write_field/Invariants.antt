@@ -1,6 +1,6 @@
-use Rattle.std.proofs.Common.{◌≡◌, ◌-◌, ◌++◌, length, take, reverse}
+use Rattle.std.proofs.Common.{◌≡◌, ◌++◌, length, drop}
 use Rattle.digits.specs.Fields.{field}
 use Rattle.digits.proofs.write_field.Given as goal
 
-abbrev pub invariant-loop-slot : goal.invariant-loop-slot
-invariant-loop-slot l = field (length l.place - l.slot-index) l.rest ++ reverse (take l.slot-index l.place) ≡ field (length l.place) l.figure
+abbrev pub invariant-loop-at : goal.invariant-loop-at
+invariant-loop-at l = field l.at l.rest ++ drop l.at l.place ≡ field (length l.place) l.figure
