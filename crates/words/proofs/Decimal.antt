@@ -1,91 +1,108 @@
--- What `parse` reads as a number, in the words of the figures.
-use Rattle.std.proofs.Common.{◌≡◌, ◌≢◌, ℕ, zero, suc, ◌^◌, ◌<◌, ◌≤◌, Bool, true, false, cond, ◌&&◌, List, [], ◌∷◌, length, get_or, drop, ℤ, pos, neg_ℤ, w64, Some, None, Ok, Err, Result, sym, refl, ap, arith, rules}
+-- The number that digits write, summed up from the left, and the figure that it makes with a sign.
+use Rattle.std.proofs.Common.{◌≡◌, ◌≢◌, ℕ, zero, suc, ◌+◌, ◌-◌, ◌*◌, ◌^◌, ◌<◌, ◌≤◌, true, false, ◌&&◌, leb, List, [], ◌∷◌, length, get_or, drop, ℤ, pos, neg_ℤ, ◌+ℤ◌, ◌-ℤ◌, w64, SFits, Some, None, Option, refl, ◌∙◌, add_assoc, mul_assoc, add-mul, le-mul_of_pos_right, arith}
+use native.Mathlib.Nat.{pow-succ', one-le-pow}
+use Rattle.std.proofs.lemmas.List.{drop_more, drop_all}
+use Rattle.std.proofs.lemmas.Bool.{and_right, lt-leb, le-leb}
 use Rattle.std.proofs.lemmas.Bool.Decides.{nat_tests}
-use Rattle.std.proofs.lemmas.Str.{IsUtf8-from_ascii}
-use Rattle.std.proofs.lemmas.Str.Ascii.{IsAscii-nil, IsAscii-cons}
-use Rattle.std.proofs.lemmas.Str.Parse.{IsNumeralModel, numerals_by_weight, parse_signed_minus, parse_signed_plain}
-use Rattle.std.specs.Result.{OkIff, result_ok}
-use Rattle.std.specs.Str.{IsAscii, IsUtf8}
-use Rattle.std.specs.Str.Parse.{ParsesSigned}
+use Rattle.std.specs.Option.{SomeIff}
 use Rattle.words.specs.Words.{begins}
-use Rattle.words.specs.Figures.{all_digits, is_numeral, value, in_range, figure_if, figure_of}
+use Rattle.words.specs.Figures.{is_digit, all_digits, is_numeral, value, figure_if, figure_of, size_of}
 
--- the library's digits and their number are the figures'
-own : IsNumeralModel (λ ds. all_digits ds ≡ true) value
-own = numerals_by_weight _ (search rules) value (search rules)
+-- the first i of the bytes ds are digits, and write m
+pub record Summed (ds : List ℕ) (i m : ℕ) : Type 0 where
+  pub digits : all_digits ds ≡ all_digits (drop i ds)
+  pub whole : value ds ≡ m * 10 ^ length (drop i ds) + value (drop i ds)
 
-numeral_to : (ds : List ℕ) → is_numeral ds ≡ true → (all_digits ds ≡ true) × (0 < length ds)
-numeral_to [] e = absurd cc
-numeral_to (d ∷ ds) e = (e, omega arith)
+pub summed_none : (ds : List ℕ) → Summed ds 0 0
+summed_none ds = record { digits = refl; whole = omega arith }
 
-numeral_from : (ds : List ℕ) → all_digits ds ≡ true → 0 < length ds → is_numeral ds ≡ true
-numeral_from [] e h = absurd (omega arith)
-numeral_from (d ∷ ds) e h = e
+place : (m d n v : ℕ) → m * 10 ^ suc n + (d * 10 ^ n + v) ≡ (m * 10 + d) * 10 ^ n + v
+place m d n v = simp (pow-succ', add-mul, mul_assoc, add_assoc)
 
-parsed : {E : Type 0} (r : Result ℤ E) (ds : List ℕ) (z : ℤ) (Q : Type 0) → (in_range z ≡ true → Q) → (Q → in_range z ≡ true)
-    → OkIff r ((all_digits ds ≡ true) × (0 < length ds) × Q) z → result_ok r ≡ figure_if (is_numeral ds) z
-parsed (Ok x) ds z Q to from h = rw (numeral_from ds h.0.0 h.0.1, from h.0.2) (ap Some h.1)
-parsed (Err x) ds z Q to from h = go (is_numeral ds) (in_range z) refl refl
-  where
-    go : (s t : Bool) → is_numeral ds ≡ s → in_range z ≡ t → None ≡ cond (s && t) (Some z) None
-    go true true n i = let d = numeral_to ds n in absurd (h (d.0, d.1, to i))
-    go true false n i = refl
-    go false t n i = refl
+module _ (ds : List ℕ) (i m : ℕ) (s : Summed ds i m) where
+  pub summed_more : i < length ds → is_digit (get_or ds i 0) ≡ true → Summed ds (i + 1) (m * 10 + (get_or ds i 0 - 48))
+  summed_more lt e =
+      let d = drop_more ds i 0 lt in
+      let a : all_digits (drop i ds) ≡ all_digits (drop (i + 1) ds) = rw (d, e) refl in
+      record { digits = s.digits ∙ a; whole = s.whole ∙ rw d (place m (get_or ds i 0 - 48) (length (drop (i + 1) ds)) (value (drop (i + 1) ds))) }
 
-first_is : (c : ℕ) (w : List ℕ) → begins c w ≡ true → get_or w 0 0 ≡ c
-first_is c [] e = absurd cc
-first_is c (b ∷ bs) e = grind (arith, nat_tests)
+  pub summed_least : m ≤ value ds
+  summed_least = omega (arith, s.whole, le-mul_of_pos_right m (one-le-pow (length (drop i ds)) 10 (omega arith)))
 
-first_not : (c : ℕ) (w : List ℕ) → 0 < c → begins c w ≡ false → get_or w 0 0 ≢ c
-first_not c [] h e = grind (arith, nat_tests)
-first_not c (b ∷ bs) h e = grind (arith, nat_tests)
+  not_numeral : (cs : List ℕ) → all_digits cs ≡ false → is_numeral cs ≡ false
+  not_numeral [] e = refl
+  not_numeral (c ∷ cs) e = e
 
-minus_range : (n : ℕ) → (in_range (neg_ℤ (pos n)) ≡ true → n ≤ 2 ^ 63) × (n ≤ 2 ^ 63 → in_range (neg_ℤ (pos n)) ≡ true)
-minus_range zero = (λ e. omega arith, λ h. refl)
-minus_range (suc n) = (λ e. grind (arith, nat_tests), λ h. grind (arith, nat_tests))
+  pub size_not_digit : (limit : ℕ) → i < length ds → is_digit (get_or ds i 0) ≡ false → None ≡ size_of limit ds
+  size_not_digit limit lt e =
+      let d = drop_more ds i 0 lt in
+      let a : all_digits (drop i ds) ≡ false = rw (d, e) refl in
+      let n : is_numeral ds ≡ false = not_numeral ds (s.digits ∙ a) in
+      rw n refl
 
-plain_range : (n : ℕ) → (in_range (pos n) ≡ true → n < 2 ^ 63) × (n < 2 ^ 63 → in_range (pos n) ≡ true)
-plain_range n = (λ e. grind (arith, nat_tests), λ h. grind (arith, nat_tests))
+  is_numeral_some : (cs : List ℕ) → 0 < length cs → all_digits cs ≡ true → is_numeral cs ≡ true
+  is_numeral_some [] h e = absurd (omega arith)
+  is_numeral_some (c ∷ cs) h e = e
 
-pub parse_figure : {E : Type 0} (w : List ℕ) (r : Result ℤ E) → false ≡ begins 43 w → ParsesSigned w64 10 w r → result_ok r ≡ figure_of w
-unfolding figure_of
-parse_figure w r plus h = go (begins 45 w) refl
-  where
-    go : (t : Bool) → begins 45 w ≡ t → result_ok r ≡ cond t (figure_if (is_numeral (drop 1 w)) (neg_ℤ (pos (value (drop 1 w))))) (figure_if (is_numeral w) (pos (value w)))
-    go true b =
-        let range = minus_range (value (drop 1 w)) in
-        parsed r (drop 1 w) _ _ range.0 range.1 (parse_signed_minus own w64 w r h (first_is 45 w b))
-    go false b =
-        let range = plain_range (value w) in
-        parsed r w _ _ range.0 range.1 (parse_signed_plain own w64 w r h (first_not 43 w (omega arith) (sym plus)) (first_not 45 w (omega arith) b))
+  pub size_all : (limit : ℕ) → 0 < length ds → length ds ≤ i → m ≤ limit → Some m ≡ size_of limit ds
+  size_all limit some le small =
+      let d = drop_all i ds le in
+      let a : all_digits (drop i ds) ≡ true = rw d refl in
+      let n : is_numeral ds ≡ true = is_numeral_some ds some (s.digits ∙ a) in
+      let z : value (drop i ds) ≡ 0 = rw d refl in
+      let o : length (drop i ds) ≡ 0 = rw d refl in
+      let w : value ds ≡ m * 10 ^ 0 + 0 = rw (o, z) at s.whole in
+      let v : value ds ≡ m = omega arith in
+      let b : leb (value ds) limit ≡ true = le-leb (value ds) limit (omega arith) in
+      rw (n, b, v) refl
 
-pub plus_no_figure : (w : List ℕ) → true ≡ begins 43 w → None ≡ figure_of w
-unfolding figure_of
-plus_no_figure [] e = absurd cc
-plus_no_figure (b ∷ bs) e = let is : b ≡ 43 = grind (arith, nat_tests) in rw is refl
+pub size_large : (limit : ℕ) (ds : List ℕ) → limit < value ds → None ≡ size_of limit ds
+size_large limit ds lt =
+    let b : (is_numeral ds && leb (value ds) limit) ≡ false = and_right _ _ (lt-leb (value ds) limit lt) in
+    rw b refl
 
-ascii_digits : (ds : List ℕ) → all_digits ds ≡ true → IsAscii ds
-ascii_digits [] e = IsAscii-nil
-ascii_digits (d ∷ ds) e =
-    let small : d < 128 = grind (arith, nat_tests) in
-    let rest : all_digits ds ≡ true = grind (arith, nat_tests) in
-    IsAscii-cons d ds small (ascii_digits ds rest)
+pub begins_is : (c : ℕ) (w : List ℕ) → 0 < length w → get_or w 0 0 ≡ c → begins c w ≡ true
+begins_is c [] h e = absurd (omega arith)
+begins_is c (b ∷ bs) h e = grind (arith, nat_tests)
 
-ascii_minus : (w : List ℕ) → begins 45 w ≡ true → all_digits (drop 1 w) ≡ true → IsAscii w
-ascii_minus [] b e = IsAscii-nil
-ascii_minus (m ∷ ds) b e = let small : m < 128 = grind (arith, nat_tests) in IsAscii-cons m ds small (ascii_digits ds e)
+pub begins_not : (c : ℕ) (w : List ℕ) → (0 < length w → get_or w 0 0 ≢ c) → begins c w ≡ false
+begins_not c [] h = refl
+begins_not c (b ∷ bs) h = let d : b ≢ c = h (omega arith) in grind (arith, nat_tests)
 
-not_numeral : (ds : List ℕ) (z : ℤ) → (is_numeral ds ≡ true → ⊥) → None ≡ figure_if (is_numeral ds) z
-not_numeral ds z h = go (is_numeral ds) refl
-  where
-    go : (t : Bool) → is_numeral ds ≡ t → None ≡ figure_if t z
-    go true n = absurd (h n)
-    go false n = refl
+-- a number that is checked to fit 64 bits with a sign
+minus_fits : (n : ℕ) (r : Option ℤ) → SomeIff r (SFits w64 (pos 0 -ℤ pos n)) (pos 0 -ℤ pos n) → r ≡ figure_if true (neg_ℤ (pos n))
+minus_fits zero None h = grind (arith, nat_tests)
+minus_fits zero (Some x) h = grind (arith, nat_tests)
+minus_fits (suc n) None h = grind (arith, nat_tests)
+minus_fits (suc n) (Some x) h = grind (arith, nat_tests)
 
-pub text_no_figure : (w : List ℕ) → ¬ IsUtf8 w → None ≡ figure_of w
-unfolding figure_of
-text_no_figure w other = go (begins 45 w) refl
-  where
-    go : (t : Bool) → begins 45 w ≡ t → None ≡ cond t (figure_if (is_numeral (drop 1 w)) (neg_ℤ (pos (value (drop 1 w))))) (figure_if (is_numeral w) (pos (value w)))
-    go true b = not_numeral (drop 1 w) (neg_ℤ (pos (value (drop 1 w)))) (λ n. other (IsUtf8-from_ascii w (ascii_minus w b (numeral_to (drop 1 w) n).0)))
-    go false b = not_numeral w (pos (value w)) (λ n. other (IsUtf8-from_ascii w (ascii_digits w (numeral_to w n).0)))
+plain_fits : (n : ℕ) (r : Option ℤ) → SomeIff r (SFits w64 (pos 0 +ℤ pos n)) (pos 0 +ℤ pos n) → r ≡ figure_if true (pos n)
+plain_fits n None h = grind (arith, nat_tests)
+plain_fits n (Some x) h = grind (arith, nat_tests)
+
+sized : (ds : List ℕ) (n : ℕ) → Some n ≡ size_of (2 ^ 64 - 1) ds → (is_numeral ds ≡ true) × (value ds ≡ n)
+sized ds n e = grind (arith, nat_tests)
+
+unsized_minus : (ds : List ℕ) → None ≡ size_of (2 ^ 64 - 1) ds → None ≡ figure_if (is_numeral ds) (neg_ℤ (pos (value ds)))
+unsized_minus ds e = grind (arith, nat_tests)
+
+unsized_plain : (ds : List ℕ) → None ≡ size_of (2 ^ 64 - 1) ds → None ≡ figure_if (is_numeral ds) (pos (value ds))
+unsized_plain ds e = grind (arith, nat_tests)
+
+module _ (w : List ℕ) (b : begins 45 w ≡ true) where
+  pub minus_none : None ≡ size_of (2 ^ 64 - 1) (drop 1 w) → None ≡ figure_of w
+  unfolding figure_of
+  minus_none e = rw b (unsized_minus (drop 1 w) e)
+
+  pub minus_some : (n : ℕ) (r : Option ℤ) → Some n ≡ size_of (2 ^ 64 - 1) (drop 1 w) → SomeIff r (SFits w64 (pos 0 -ℤ pos n)) (pos 0 -ℤ pos n) → r ≡ figure_of w
+  unfolding figure_of
+  minus_some n r e h = let s = sized (drop 1 w) n e in rw (b, s.0, s.1) (minus_fits n r h)
+
+module _ (w : List ℕ) (b : begins 45 w ≡ false) where
+  pub plain_none : None ≡ size_of (2 ^ 64 - 1) w → None ≡ figure_of w
+  unfolding figure_of
+  plain_none e = rw b (unsized_plain w e)
+
+  pub plain_some : (n : ℕ) (r : Option ℤ) → Some n ≡ size_of (2 ^ 64 - 1) w → SomeIff r (SFits w64 (pos 0 +ℤ pos n)) (pos 0 +ℤ pos n) → r ≡ figure_of w
+  unfolding figure_of
+  plain_some n r e h = let s = sized w n e in rw (b, s.0, s.1) (plain_fits n r h)

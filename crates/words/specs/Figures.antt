@@ -6,6 +6,7 @@
 --     in_range        whether a number is from -2^63 to 2^63 - 1
 --     figure_if       a number, if it was written by a numeral and is in range
 --     figure_of       the number that a word writes, if it is a figure: digits, or a minus and digits, for a number in range
+--     size_of         the number that a text writes, if it is a numeral for at most a limit
 use Rattle.std.specs.Prelude.{ℕ, ◌+◌, ◌-◌, ◌*◌, ◌^◌, Bool, true, false, cond, ◌&&◌, List, [], ◌∷◌, length, drop, ℤ, pos, neg_ℤ, Some, None, Option, int_le, nat_le}
 use Rattle.words.specs.Words.{begins}
 
@@ -32,3 +33,6 @@ figure_if numeral z = cond (numeral && in_range z) (Some z) None
 
 unfoldable pub figure_of : List ℕ → Option ℤ
 figure_of w = cond (begins 45 w) (figure_if (is_numeral (drop 1 w)) (neg_ℤ (pos (value (drop 1 w))))) (figure_if (is_numeral w) (pos (value w)))
+
+abbrev pub size_of : ℕ → List ℕ → Option ℕ
+size_of limit ds = cond (is_numeral ds && nat_le (value ds) limit) (Some (value ds)) None

@@ -1,5 +1,5 @@
 // The words that stand behind the name of a call: one read as what it stands for, or all of them as figures.
-ghost use Rattle.std.specs.Prelude.{◌≡◌, ℕ, List, Option, is_some};
+ghost use Rattle.std.specs.Prelude.{◌≡◌, ℕ, List, Option};
 ghost use Rattle.words.specs.Arguments.{figures_of, count_of, leading, written, place_after, first_as, behind};
 ghost use Rattle.words.specs.Cursor.{words_left};
 ghost use Rattle.words.specs.Figures.{figure_of};
@@ -45,6 +45,7 @@ impl FromWord for PenaltyWord {
 
 impl<'a> Words<'a> {
     // What the next word stands for; none if it can't be read so, or if no word is left.
+    #[inline]
     pub(crate) fn next_as<T: FromWord>(&mut self) -> Option<T>
         ensures first { result ≡ first_as T.read_as (words_left self.old) }
         ensures others { words_left self.new ≡ behind (words_left self.old) }
@@ -54,11 +55,16 @@ impl<'a> Words<'a> {
     }
 }
 
-// Whether each of the words is a figure.
-fn all_figures(mut words: Words) -> bool
-    ensures { result ≡ is_some (figures_of (words_left words.entry)) }
+// How many figures the words are, if each of them is one.
+fn count_figures(words: Words) -> Option<usize>
+    ensures { result ≡ count_of (figures_of (words_left words.entry)) }
 {
-    words.all(|word| figure(word).is_some())
+    let mut count = 0;
+    for word in words {
+        figure(word)?;
+        count += 1;
+    }
+    Some(count)
 }
 
 // Writes the figures at the front of the words at the start of `place`, as far as they fit.
@@ -78,9 +84,7 @@ pub(crate) fn list_figures(words: Words, place: &mut [i64]) -> Option<usize>
     ensures count { result ≡ count_of (figures_of (words_left words.entry)) }
     ensures place { place.new ≡ place_after (figures_of (words_left words.entry)) place.old }
 {
-    if !all_figures(words) {
-        return None;
-    }
+    let count = count_figures(words)?;
     write_figures(words, place);
-    Some(words.count())
+    Some(count)
 }

@@ -1,19 +1,30 @@
-use Rattle.std.proofs.Common.{◌≡◌, ◌∙◌, rules}
-use Rattle.std.specs.Str.{IsUtf8}
-use Rattle.words.proofs.Spelling.{starts_begins}
-use Rattle.words.proofs.Decimal.{parse_figure, plus_no_figure, text_no_figure}
+use Rattle.std.proofs.Common.{◌≡◌, ◌^◌, ◌-◌, true, false, drop, Some, None, ◌∙◌, arith}
+use Rattle.std.proofs.lemmas.List.{take_rest}
+use Rattle.words.specs.Words.{begins}
+use Rattle.words.specs.Figures.{size_of}
+use Rattle.words.proofs.Decimal.{begins_is, begins_not, minus_none, minus_some, plain_none, plain_some}
 use Rattle.words.proofs.figures.figure.Goals as goal
 
-pub returns-then-starts_with : goal.returns-then-starts_with
-returns-then-starts_with c = plus_no_figure c.args.word.now (c.if-starts_with.ensures.value ∙ starts_begins 43 c.args.word.now)
-
-pub returns-in_err-ok : goal.returns-in_err-ok
-returns-in_err-ok c =
-    let other : ¬ IsUtf8 c.args.word.now = search rules in
-    c.from_residual.ensures ∙ text_no_figure c.args.word.now other
-
-pub returns : goal.returns
-returns c =
+pub returns-in_err-size-in-45 : goal.returns-in_err-size-in-45
+returns-in_err-size-in-45 c =
     let w = c.args.word.now in
-    let same : c.in_ok-ok.field-0.now ≡ w = search rules in
-    c.ok-2.ensures.value ∙ parse_figure w c.parse.result (c.if-starts_with.ensures.value ∙ starts_begins 43 w) (rw same at c.parse.ensures.value.0)
+    let b : begins 45 w ≡ true = begins_is 45 w (omega arith) (omega arith) in
+    let none : None ≡ size_of (2 ^ 64 - 1) (drop 1 w) = rw (take_rest w 1) at c.in_err-size-in-45.ensures in
+    c.from_residual.ensures ∙ minus_none w b none
+
+pub returns-in_ok-size-in-45 : goal.returns-in_ok-size-in-45
+returns-in_ok-size-in-45 c =
+    let w = c.args.word.now in
+    let b : begins 45 w ≡ true = begins_is 45 w (omega arith) (omega arith) in
+    let some : Some c.in_ok-size-in-45.field-0 ≡ size_of (2 ^ 64 - 1) (drop 1 w) = rw (take_rest w 1) at c.in_ok-size-in-45.ensures in
+    minus_some w b _ _ some c.checked_sub_unsigned.ensures
+
+pub returns-in_err-size-in_default : goal.returns-in_err-size-in_default
+returns-in_err-size-in_default c =
+    let b : begins 45 c.args.word.now ≡ false = begins_not 45 c.args.word.now (λ h. grind arith) in
+    c.from_residual-in_err-size-in_default.ensures ∙ plain_none _ b c.in_err-size-in_default.ensures
+
+pub returns-in_ok-size-in_default : goal.returns-in_ok-size-in_default
+returns-in_ok-size-in_default c =
+    let b : begins 45 c.args.word.now ≡ false = begins_not 45 c.args.word.now (λ h. grind arith) in
+    plain_some _ b _ _ c.in_ok-size-in_default.ensures c.checked_add_unsigned.ensures
