@@ -3,7 +3,7 @@ ghost use Rattle.std.specs.Prelude.{◌≡◌, ◌-◌, ◌^◌};
 ghost use Rattle.words.specs.Figures.{size_of, figure_of};
 
 // The number that `digits` write, if they are digits and it fits in 64 bits.
-// Kept so: `parse` wants the whole word as text first, and takes several times as long.
+// Kept so: `parse` wants the whole word as text first, and takes up to several times as long.
 fn size(digits: &[u8]) -> Option<u64>
     ensures { result ≡ size_of (2 ^ 64 - 1) digits.now }
 {
